@@ -1,0 +1,24 @@
+-- Every number of a depth is a multiple of its step: so a fact of all depths is shown once, over the step.
+-- Assumes nothing.
+use Prim.Native.Nat.{ℕ, _-_, _*_, _^_, _≤_}
+use mathlib.Core.Path.{_≡_, refl}
+use native.Mathlib.Omega.{arith}
+use Rattle.esrgb.specs.declared.Depth.{Depth}
+use Rattle.esrgb.specs.declared.Depth.the-variants.{Ten, Twelve, Sixteen}
+use Rattle.esrgb.specs.Depths.{bits, middle, offset, step}
+
+pub record Scale (n : ℕ) : Type 0 where
+  pub whole : 2 ^ n ≡ 512 * step n
+  pub half : middle n ≡ 256 * step n
+  pub zero-at : offset n ≡ 192 * step n
+  pub some : 2 ≤ step n
+  pub fits : step n ≤ 128
+  pub half-step : ℕ
+  pub even : step n ≡ 2 * half-step
+  pub least : 10 ≤ n
+  pub most : n ≤ 16
+
+pub scale : (d : Depth) → Scale (bits d)
+scale Ten = record { whole = refl; half = refl; zero-at = refl; some = omega arith; fits = omega arith; half-step = 1; even = refl; least = omega arith; most = omega arith }
+scale Twelve = record { whole = refl; half = refl; zero-at = refl; some = omega arith; fits = omega arith; half-step = 4; even = refl; least = omega arith; most = omega arith }
+scale Sixteen = record { whole = refl; half = refl; zero-at = refl; some = omega arith; fits = omega arith; half-step = 64; even = refl; least = omega arith; most = omega arith }

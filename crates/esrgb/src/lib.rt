@@ -1,0 +1,150 @@
+// e-sRGB codes, one sample at a time: the depths that are offered, sRGB to e-sRGB and back, and one
+// depth to another. It promises that a rule computes what PIMA 7667 and document 01 define for its
+// depth, for every sample.
+ghost use mathlib.Core.Path.{_≡_};
+ghost use Prim.Native.Nat.{_+_, _-_, _*_, _^_};
+ghost use Rattle.esrgb.specs.Depths.{bits, Names, greatest, middle, offset, step};
+ghost use Rattle.esrgb.specs.Codes.{fromSrgb, toSrgb, changeDepth};
+ghost use Rattle.esrgb.specs.Rules.{applied, ruleOf, Computes};
+
+// A depth of e-sRGB.
+pub enum Depth {
+    Ten,
+    Twelve,
+    Sixteen,
+}
+
+// What a number of bits names.
+pub enum Offer {
+    Offered(Depth),
+    NotOffered,
+}
+
+pub fn depth_of(n: u32) -> Offer
+    ensures { λ r. ⌜ Names n r ⌝ }
+{
+    match n {
+        10 => Offer::Offered(Depth::Ten),
+        12 => Offer::Offered(Depth::Twelve),
+        16 => Offer::Offered(Depth::Sixteen),
+        _ => Offer::NotOffered,
+    }
+}
+
+// The bits of a code.
+pub fn bits_of(depth: Depth) -> u16
+    ensures { λ r. ⌜ r ≡ bits depth ⌝ }
+{
+    match depth {
+        Depth::Ten => 10,
+        Depth::Twelve => 12,
+        Depth::Sixteen => 16,
+    }
+}
+
+// The step from one sRGB value to the next. Every other number of a depth is a multiple of it.
+pub fn step_of(depth: Depth) -> u16
+    ensures { λ r. ⌜ r ≡ step (bits depth) ⌝ }
+{
+    match depth {
+        Depth::Ten => 2,
+        Depth::Twelve => 8,
+        Depth::Sixteen => 128,
+    }
+}
+
+// The greatest code.
+pub fn greatest_of(depth: Depth) -> u16
+    ensures { λ r. ⌜ r ≡ greatest (bits depth) ⌝ }
+{
+    match depth {
+        Depth::Ten => 1023,
+        Depth::Twelve => 4095,
+        Depth::Sixteen => 65535,
+    }
+}
+
+// What is done to each sample of a picture. The numbers of a depth are worked out once, before the
+// loop, and the loop's arithmetic is on 16 bits, so that a compiler can do several samples at once.
+pub enum SampleRule {
+    Affine(Line),
+    ToEight(Cut),
+    // sample / 2^shift.
+    Drop(u16),
+}
+
+// factor * sample + offset, in 16 bits.
+pub struct Line {
+    pub factor: u16,
+    pub offset: u16,
+}
+
+// (sample - low) / 2^shift, from 0 to 255.
+pub struct Cut {
+    pub low: u16,
+    pub shift: u16,
+}
+
+pub fn apply(rule: SampleRule, sample: u16) -> u16
+    ensures { λ r. ⌜ r ≡ applied rule sample ⌝ }
+{
+    match rule {
+        SampleRule::Affine(line) => ((line.factor as u32 * sample as u32 + line.offset as u32)
+            % 65536) as u16,
+        SampleRule::ToEight(cut) => to_eight(cut, sample),
+        SampleRule::Drop(shift) => sample >> (shift % 16),
+    }
+}
+
+fn to_eight(cut: Cut, sample: u16) -> u16
+    ensures { λ r. ⌜ r ≡ applied (SampleRule.ToEight cut) sample ⌝ }
+{
+    if sample < cut.low {
+        return 0;
+    }
+    let value = (sample - cut.low) >> (cut.shift % 16);
+    if 255 < value { 255 } else { value }
+}
+
+// sRGB to e-sRGB.
+pub fn from_srgb(depth: Depth) -> Line
+    ensures { λ r. ⌜ Computes (SampleRule.Affine r) (fromSrgb (bits depth)) ⌝ }
+{
+    let step = step_of(depth);
+    Line {
+        factor: step,
+        offset: 192 * step,
+    }
+}
+
+// e-sRGB to sRGB. From half a step below the offset on, the nearest value is no longer below 0.
+pub fn to_srgb(depth: Depth) -> Cut
+    ensures { λ r. ⌜ Computes (SampleRule.ToEight r) (toSrgb (bits depth)) ⌝ }
+{
+    let step = step_of(depth);
+    Cut {
+        low: 192 * step - step / 2,
+        shift: bits_of(depth) - 9,
+    }
+}
+
+// How codes go from one depth to another: by a factor, or by dropping low bits.
+pub enum DepthChange {
+    Up(Line),
+    Down(u16),
+}
+
+pub fn change_depth(from: Depth, to: Depth) -> DepthChange
+    ensures { λ r. ⌜ Computes (ruleOf r) (changeDepth (bits from) (bits to)) ⌝ }
+{
+    let n = bits_of(from);
+    let m = bits_of(to);
+    if n <= m {
+        DepthChange::Up(Line {
+            factor: 1 << (m - n),
+            offset: 0,
+        })
+    } else {
+        DepthChange::Down(n - m)
+    }
+}

@@ -1,0 +1,3 @@
+pub mod LumaChroma
+pub mod Near
+pub mod Quotient

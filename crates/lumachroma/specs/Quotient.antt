@@ -1,0 +1,19 @@
+-- The signed quotient (up − down) ÷ den of a chroma, as the code computes it: what it asks, and what it gives.
+-- Assumes nothing.
+use Prim.Native.Nat.{ℕ, _+_, _-_, _*_, _/_, _%_, _≤_, _<_}
+use mathlib.Core.Path.{_≡_}
+use Rattle.numbers.specs.Rounding.{nearestDown}
+
+-- The quotient is within 32767.5 of 0, as it is for 16-bit samples whose weights on either side add up to half of den.
+pub record InRange (up down den : ℕ) : Type 0 where
+  pub even : den % 2 ≡ 0
+  pub some : 2 ≤ den
+  pub few : den ≤ 2000
+  pub above : up ≤ down + 65535 * (den / 2)
+  pub below : down ≤ up + 65535 * (den / 2)
+  pub fits : up ≤ 65535000
+
+-- q is the quotient to the nearest, ties towards zero, plus 32768.
+pub record Biased (up down den q : ℕ) : Type 0 where
+  pub rounded : q + nearestDown (down - up) den ≡ 32768 + nearestDown (up - down) den
+  pub fits : q < 65536

@@ -1,0 +1,127 @@
+// Luma and chroma of one pixel, and the way back: document 01's sheet, with BT.601-5's luma weights.
+// It promises that every pixel of 16-bit samples gets the three numbers that the definitions of
+// specs/ give at its depth, so that it asks nothing of a caller.
+use esrgb::Depth;
+use esrgb::greatest_of;
+use esrgb::step_of;
+ghost use mathlib.Core.Path.{_≡_};
+ghost use Prim.Native.Nat.{_+_, _-_, _*_, _≤_, min};
+ghost use Rattle.esrgb.specs.Depths.{bits, greatest, middle};
+ghost use Rattle.lumachroma.specs.LumaChroma.{chroma, toLumaChroma, clipped, greenBack, toRgb};
+ghost use Rattle.lumachroma.specs.Quotient.{InRange, Biased};
+
+// A pixel of e-sRGB codes.
+pub struct Rgb {
+    pub red: u16,
+    pub green: u16,
+    pub blue: u16,
+}
+
+// A pixel of document 01's sheet: luma, blue chroma and red chroma.
+pub struct LumaChroma {
+    pub luma: u16,
+    pub cb: u16,
+    pub cr: u16,
+}
+
+// 1000 times luma, not yet rounded. Chroma comes from it too, and so never from rounded luma.
+fn weighted_sum(red: u16, green: u16, blue: u16) -> u32
+    ensures { λ r. ⌜ r ≡ 299 * red + 587 * green + 114 * blue ⌝ }
+{
+    299 * (red as u32) + 587 * (green as u32) + 114 * (blue as u32)
+}
+
+// The middle code, in the width of the sums here.
+fn middle_of(depth: Depth) -> u32
+    ensures { λ r. ⌜ (r ≡ middle (bits depth)) × (r ≤ 32768) ⌝ }
+{
+    256 * (step_of(depth) as u32)
+}
+
+// (up - down) / den to the nearest, ties towards zero, plus 32768. That bias, the middle code of 16
+// bits, keeps the dividend above 0, so that both signs take one division and no branch: only what
+// rounds it differs.
+fn biased_quotient(up: u32, down: u32, den: u32) -> u32
+    requires { ⌜ InRange up down den ⌝ }
+    ensures { λ r. ⌜ Biased up down den r ⌝ }
+{
+    let half = if up < down { den / 2 } else { den / 2 - 1 };
+    (den * 32768 + up + half - down) / den
+}
+
+// The same plus the middle code of the depth in place of 32768, and 0 where that would be less.
+fn chroma_of(depth: Depth, up: u32, down: u32, den: u32) -> u16
+    requires { ⌜ InRange up down den ⌝ }
+    ensures { λ r. ⌜ r ≡ chroma (bits depth) up down den ⌝ }
+{
+    let biased = biased_quotient(up, down, den);
+    let low = 32768 - middle_of(depth);
+    if biased < low {
+        0
+    } else {
+        (biased - low) as u16
+    }
+}
+
+// A pixel of codes as luma and chroma.
+pub fn to_luma_chroma(depth: Depth, p: Rgb) -> LumaChroma
+    ensures { λ r. ⌜ r ≡ toLumaChroma (bits depth) p ⌝ }
+{
+    let sum = weighted_sum(p.red, p.green, p.blue);
+    LumaChroma {
+        luma: ((sum + 500) / 1000) as u16,
+        cb: chroma_of(depth, 1000 * (p.blue as u32), sum, 1772),
+        cr: chroma_of(depth, 1000 * (p.red as u32), sum, 1402),
+    }
+}
+
+// A sum that stands `bias` too high, clipped to the codes of a depth.
+fn clip(depth: Depth, sum: u32, bias: u32) -> u16
+    ensures { λ r. ⌜ r ≡ min (greatest (bits depth)) (sum - bias) ⌝ }
+{
+    let greatest = greatest_of(depth);
+    if sum < bias {
+        0
+    } else if sum - bias < (greatest as u32) {
+        (sum - bias) as u16
+    } else {
+        greatest
+    }
+}
+
+// Red or blue: luma plus `weight` thousandths of the chroma's distance from the middle. The sum
+// stands twice the middle too high, so that it is never below 0.
+fn add_chroma(depth: Depth, luma: u16, chroma: u16, weight: u32) -> u16
+    requires { ⌜ weight ≤ 2000 ⌝ }
+    ensures { λ r. ⌜ r ≡ clipped (bits depth) (1000 * luma + weight * chroma) (weight * middle (bits depth)) 1000 ⌝ }
+{
+    let middle = middle_of(depth);
+    let part = (weight * (chroma as u32) + middle * (2000 - weight) + 500) / 1000;
+    clip(depth, (luma as u32) + part, 2 * middle)
+}
+
+// Green: luma less both chromas' shares. Numerator and denominator are half of the definition's,
+// which keeps the quotient, and the sum stands 131072 too high, so that it is never below 0.
+fn green_of(depth: Depth, luma: u16, cb: u16, cr: u16) -> u16
+    ensures { λ r. ⌜ r ≡ greenBack (bits depth) luma cb cr ⌝ }
+{
+    let middle = middle_of(depth) as u64;
+    let up = 293500 * 131072 + 310603 * middle + 146750;
+    let down = 101004 * (cb as u64) + 209599 * (cr as u64);
+    clip(
+        depth,
+        (luma as u32) + (((up - down) / 293500) as u32),
+        131072,
+    )
+}
+
+// The way back. What comes back is a code of the depth, whatever the three numbers are.
+pub fn to_rgb(depth: Depth, p: LumaChroma) -> Rgb
+    ensures { λ r. ⌜ r ≡ toRgb (bits depth) p ⌝ }
+{
+    Rgb {
+        red: add_chroma(depth, p.luma, p.cr, 1402),
+        green: green_of(depth, p.luma, p.cb, p.cr),
+        blue: add_chroma(depth, p.luma, p.cb, 1772),
+    }
+}

@@ -1,0 +1,14 @@
+-- Numbers as bytes: "little-endian and unsigned", "the low byte first".
+-- Assumes nothing.
+use Prim.Native.Nat.{ℕ, zero, suc, _+_, _*_, _/_, _%_}
+use mathlib.Core.List.{List, [], _∷_}
+
+-- The number that some bytes hold, the low byte first.
+abbrev pub littleEndian : List ℕ → ℕ
+littleEndian [] = 0
+littleEndian (low ∷ rest) = low + 256 * littleEndian rest
+
+-- The low k bytes of a number, the lowest first.
+abbrev pub lowBytes : ℕ → ℕ → List ℕ
+lowBytes zero v = []
+lowBytes (suc k) v = v % 256 ∷ lowBytes k (v / 256)

@@ -1,0 +1,35 @@
+// Whole numbers: how a quotient is rounded, and how a number stands in bytes. The definitions of
+// specs/ and the laws of proofs/ are what the crates above use; the functions take and give single
+// bytes, so that they need no bound on an index and ask nothing of a caller.
+ghost use mathlib.Core.Path.{_≡_};
+ghost use mathlib.Core.List.{[], _∷_};
+ghost use Rattle.numbers.specs.Bytes.{littleEndian, lowBytes};
+
+// The number of two bytes, the low byte first.
+pub fn from_two(low: u8, high: u8) -> u16
+    ensures { λ r. ⌜ r ≡ littleEndian (low ∷ high ∷ []) ⌝ }
+{
+    (low as u16) + 256 * (high as u16)
+}
+
+// The number of four bytes, the lowest first.
+pub fn from_four(a: u8, b: u8, c: u8, d: u8) -> u32
+    ensures { λ r. ⌜ r ≡ littleEndian (a ∷ b ∷ c ∷ d ∷ []) ⌝ }
+{
+    (a as u32) + 256 * ((b as u32) + 256 * ((c as u32) + 256 * (d as u32)))
+}
+
+// The two bytes of a number.
+pub struct TwoBytes {
+    pub low: u8,
+    pub high: u8,
+}
+
+pub fn two_bytes(v: u16) -> TwoBytes
+    ensures { λ r. ⌜ r .low ∷ r .high ∷ [] ≡ lowBytes 2 v ⌝ }
+{
+    TwoBytes {
+        low: (v % 256) as u8,
+        high: (v / 256 % 256) as u8,
+    }
+}

@@ -1,0 +1,59 @@
+-- Convert: what it answers, and every byte that it leaves in the destination, for any source and any destination.
+-- Assumes nothing.
+use Prim.Native.Nat.{ℕ, _*_, _/_, _%_}
+use mathlib.Core.List.{List, map}
+use lib.Dec.{eqb}
+use lib.ListN.{length}
+use Rattle.refusal.specs.Answers.{Said, accepted, leaves}
+use Rattle.samples.specs.Samples.{pixelSize, samplesOf, Pixel, read, write}
+use Rattle.samples.specs.Faults.{judged, inOrder}
+use Rattle.esrgb.specs.Depths.{greatest}
+use Rattle.esrgb.specs.Codes.{fromSrgb, toSrgb, changeDepth}
+use Rattle.lumachroma.specs.LumaChroma.{luma, blueChroma, redChroma, redBack, greenBack, blueBack}
+use Rattle.picture.specs.declared.Conversion.{Conversion}
+use Rattle.picture.specs.declared.Conversion.the-variants.{FromSrgb, ToSrgb, ChangeDepth, ToLumaChroma, FromLumaChroma}
+use Rattle.picture.specs.Forms.{bitsOf, isSheet, wideForm, source, target, offers}
+
+-- What a conversion does to one pixel.
+abbrev pub each : (ℕ → ℕ) → Pixel → Pixel
+each f p = (f (p .0), f (p .1), f (p .2))
+
+abbrev pub lumaChromaOf : ℕ → Pixel → Pixel
+lumaChromaOf n p = (luma (p .0) (p .1) (p .2), blueChroma n (p .0) (p .1) (p .2), redChroma n (p .0) (p .1) (p .2))
+
+abbrev pub rgbOf : ℕ → Pixel → Pixel
+rgbOf n p = (redBack n (p .0) (p .1) (p .2), greenBack n (p .0) (p .1) (p .2), blueBack n (p .0) (p .1) (p .2))
+
+abbrev pub pixelOf : Conversion → Pixel → Pixel
+pixelOf (FromSrgb n) = each (fromSrgb n)
+pixelOf (ToSrgb n) = each (toSrgb n)
+pixelOf (ChangeDepth n m) = each (changeDepth n m)
+pixelOf (ToLumaChroma n) = lumaChromaOf n
+pixelOf (FromLumaChroma n) = rgbOf n
+
+-- The pixel count of a source, and the length that its destination needs.
+abbrev pub pixelCount : Conversion → List ℕ → ℕ
+pixelCount c src = length src / pixelSize (wideForm (source c))
+
+abbrev pub needed : Conversion → List ℕ → ℕ
+needed c src = pixelSize (wideForm (target c)) * pixelCount c src
+
+-- What the samples of a source say, where its lengths are right. "Accepted, it gives the pixel count."
+abbrev pub sourceSays : Conversion → List ℕ → Said
+sourceSays c src =
+    judged (wideForm (source c)) (isSheet (source c)) (greatest (bitsOf (source c))) (accepted (pixelCount c src)) 0
+    (samplesOf (wideForm (source c)) src)
+
+-- The answer to a source and a destination of `room` bytes.
+unfoldable pub convertSays : Conversion → List ℕ → ℕ → Said
+convertSays c src room =
+    inOrder (offers c) (eqb (length src % pixelSize (wideForm (source c))) 0) (eqb room (needed c src))
+    (sourceSays c src)
+
+-- The source's pixels, converted one by one.
+unfoldable pub converted : Conversion → List ℕ → List ℕ
+converted c src = write (wideForm (target c)) (map (pixelOf c) (read (wideForm (source c)) src))
+
+-- The destination as Convert leaves it: "Refused, the destination is unchanged."
+unfoldable pub convertBytes : Conversion → List ℕ → List ℕ → List ℕ
+convertBytes c src dst = leaves (convertSays c src (length dst)) (converted c src) dst

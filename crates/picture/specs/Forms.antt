@@ -1,0 +1,52 @@
+-- What a pixel buffer holds, and what each conversion reads and writes.
+-- Assumes nothing.
+use Prim.Native.Nat.{ℕ}
+use mathlib.Core.Bool.{Bool, true, false, _&&_}
+use Rattle.esrgb.specs.Depths.{offered}
+use Rattle.picture.specs.declared.Conversion.{Conversion}
+use Rattle.picture.specs.declared.Conversion.the-variants.{FromSrgb, ToSrgb, ChangeDepth, ToLumaChroma, FromLumaChroma}
+
+-- 8-bit sRGB, e-sRGB of a depth, or document 01's sheet of a depth.
+pub data Form : Type 0 where
+  srgb : Form
+  esrgb : ℕ → Form
+  lumaChroma : ℕ → Form
+
+abbrev pub bitsOf : Form → ℕ
+bitsOf srgb = 8
+bitsOf (esrgb n) = n
+bitsOf (lumaChroma n) = n
+
+abbrev pub isSheet : Form → Bool
+isSheet srgb = false
+isSheet (esrgb n) = false
+isSheet (lumaChroma n) = true
+
+-- "A sample is one byte at 8 bits, else two": of the forms, sRGB alone has 8 bits.
+abbrev pub wideForm : Form → Bool
+wideForm srgb = false
+wideForm (esrgb n) = true
+wideForm (lumaChroma n) = true
+
+abbrev pub source : Conversion → Form
+source (FromSrgb n) = srgb
+source (ToSrgb n) = esrgb n
+source (ChangeDepth n m) = esrgb n
+source (ToLumaChroma n) = esrgb n
+source (FromLumaChroma n) = lumaChroma n
+
+abbrev pub target : Conversion → Form
+target (FromSrgb n) = esrgb n
+target (ToSrgb n) = srgb
+target (ChangeDepth n m) = esrgb m
+target (ToLumaChroma n) = lumaChroma n
+target (FromLumaChroma n) = esrgb n
+
+-- "9 a depth not offered (by either side)"
+abbrev pub offersForm : Form → Bool
+offersForm srgb = true
+offersForm (esrgb n) = offered n
+offersForm (lumaChroma n) = offered n
+
+abbrev pub offers : Conversion → Bool
+offers c = offersForm (source c) && offersForm (target c)

@@ -1,0 +1,24 @@
+-- What an answer says, in document 01's numbers, and what it leaves in the destination.
+-- Assumes nothing.
+use Prim.Native.Nat.{ℕ}
+use mathlib.Core.List.{List}
+use Rattle.refusal.specs.declared.Answer.{Answer}
+use Rattle.refusal.specs.declared.Answer.the-variants.{Done, Refused, RefusedAt}
+use Rattle.refusal.specs.Refusals.{numberOf}
+
+-- Accepted, with what the operation gives; refused, with the number; refused, with the number and the place.
+pub data Said : Type 0 where
+  accepted : ℕ → Said
+  refused : ℕ → Said
+  refusedAt : ℕ → ℕ → Said
+
+abbrev pub said : Answer → Said
+said (Done n) = accepted n
+said (Refused r) = refused (numberOf r)
+said (RefusedAt r at) = refusedAt (numberOf r) at
+
+-- "Refused, the destination is unchanged": the new content where the operation accepts, else the old.
+abbrev pub leaves : {A : Type 0} → Said → List A → List A → List A
+leaves (accepted n) new old = new
+leaves (refused k) new old = old
+leaves (refusedAt k at) new old = old

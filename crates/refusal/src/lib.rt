@@ -1,0 +1,72 @@
+// Refusals and answers: every refusal of document 01 under a name, its number, and the three shapes
+// that the answer of an operation on buffers has. It promises that a refusal's number is the one
+// that document 01 gives it.
+ghost use mathlib.Core.Path.{_≡_};
+ghost use Rattle.refusal.specs.Refusals.{numberOf};
+
+// Why an operation refuses, in the order of document 01's numbers.
+pub enum Refusal {
+    // 1: a spool shorter than its header.
+    TooShort,
+    // 2: the length in the header is not the file's.
+    WrongLength,
+    // 3: more frames than a spool may have.
+    TooManyFrames,
+    // 4: the record table is not inside the file behind the header.
+    TableOutside,
+    // 5: no frame has this number.
+    NoSuchFrame,
+    // 6: kind and bits are no pair that a picture has.
+    UnknownKind,
+    // 7: a width or height that no frame has.
+    WrongSize,
+    // 8: the pixels are not inside the file behind the header.
+    PixelsOutside,
+    // 9: a depth that is not offered.
+    DepthNotOffered,
+    // 10: the source is not a whole number of pixels.
+    NotWholePixels,
+    // 11: the destination has not exactly the length needed.
+    WrongRoom,
+    // 12: a sample above the greatest of its depth.
+    SampleTooGreat,
+    // 13: a chroma of code 0.
+    ChromaZero,
+    // 14: a spool that would be longer than its header can say.
+    TotalTooLong,
+    // 15: more input than the listing program takes.
+    InputTooLong,
+}
+
+// The number that document 01 gives a refusal.
+pub fn number(refusal: Refusal) -> u8
+    ensures { λ r. ⌜ r ≡ numberOf refusal ⌝ }
+{
+    match refusal {
+        Refusal::TooShort => 1,
+        Refusal::WrongLength => 2,
+        Refusal::TooManyFrames => 3,
+        Refusal::TableOutside => 4,
+        Refusal::NoSuchFrame => 5,
+        Refusal::UnknownKind => 6,
+        Refusal::WrongSize => 7,
+        Refusal::PixelsOutside => 8,
+        Refusal::DepthNotOffered => 9,
+        Refusal::NotWholePixels => 10,
+        Refusal::WrongRoom => 11,
+        Refusal::SampleTooGreat => 12,
+        Refusal::ChromaZero => 13,
+        Refusal::TotalTooLong => 14,
+        Refusal::InputTooLong => 15,
+    }
+}
+
+// What an operation on buffers answers.
+pub enum Answer {
+    // Accepted: the count or the length that the operation gives.
+    Done(usize),
+    // Refused.
+    Refused(Refusal),
+    // Refused, with the place of what is at fault.
+    RefusedAt(Refusal, usize),
+}

@@ -1,0 +1,74 @@
+-- Demand 3: the picture itself (document 01's wall run) and its round trip through luma and chroma (the counter run) agree, for every
+-- picture and the whole chain of calls.
+-- Assumes nothing.
+use Prim.Native.Nat.{ℕ, _+_, _≤_, _<_}
+use mathlib.Core.Path.{_≡_}
+use mathlib.Core.Bool.{true}
+use mathlib.Core.Logic.{_↔_}
+use mathlib.Core.List.{List}
+use lib.ListN.{length}
+use Rattle.refusal.specs.Answers.{Said, accepted}
+use Rattle.samples.specs.Samples.{Pixel}
+use Rattle.esrgb.specs.Depths.{offered, middle}
+use Rattle.lumachroma.specs.Near.{Near}
+use Rattle.picture.specs.declared.Conversion.the-variants.{FromSrgb, ToSrgb, ToLumaChroma, FromLumaChroma}
+use Rattle.picture.specs.Forms.{srgb, esrgb, lumaChroma}
+use Rattle.roundtrip.specs.Pictures.{Channel, channel, pixelsIn, pixelAt, Picture}
+use Rattle.roundtrip.specs.Calls.{Call}
+
+-- One pixel of codes e, its luma and chroma s, and what comes back, b: every channel within one; a grey comes back exactly,
+-- and both its chromas are the middle code.
+pub record Kept (n : ℕ) (e s b : Pixel) : Type 0 where
+  pub near : (k : Channel) → Near (channel k e) (channel k b)
+  pub grey : e .0 ≡ e .1 → e .1 ≡ e .2 → (b ≡ e) × (s .1 ≡ middle n) × (s .2 ≡ middle n)
+
+-- The round trip of a picture of codes, with the answers of its two calls: "none of these calls refuses, and each gives the
+-- picture's pixel count".
+pub record RoundTrip (n : ℕ) (codes sheet back : List ℕ) (there-says back-says : Said) : Type 0 where
+  pub there : there-says ≡ accepted (pixelsIn (esrgb n) codes)
+  pub again : back-says ≡ accepted (pixelsIn (esrgb n) codes)
+  pub size : length back ≡ length codes
+  pub kept :
+      (j : ℕ) → j < pixelsIn (esrgb n) codes
+      → Kept n (pixelAt (esrgb n) codes j) (pixelAt (lumaChroma n) sheet j) (pixelAt (esrgb n) back j)
+
+-- At 10 bits: an sRGB channel a, its code e, the code b that the round trip brings back, and b brought to 8 bits, x: it is
+-- a or one greater, never less, and one greater exactly where b is one above e and a is below 255.
+pub record OneGreater (a e b x : ℕ) : Type 0 where
+  pub least : a ≤ x
+  pub most : x ≤ a + 1
+  pub greater : x ≡ a + 1 ↔ ((b ≡ e + 1) × (a < 255))
+
+-- Both runs of an sRGB picture brought back to 8 bits, with the answers of those calls and of the first.
+pub record BackToEight (n : ℕ) (picture codes back codes₈ back₈ : List ℕ) (made-says codes-says back-says : Said) : Type 0 where
+  pub made : made-says ≡ accepted (pixelsIn srgb picture)
+  pub codes-back : codes-says ≡ accepted (pixelsIn srgb picture)
+  pub trip-back : back-says ≡ accepted (pixelsIn srgb picture)
+  pub codes-exact : codes₈ ≡ picture
+  pub size : length back₈ ≡ length picture
+  pub trip-exact : 12 ≤ n → back₈ ≡ picture
+  pub trip-at-ten :
+      n ≡ 10 → (j : ℕ) → j < pixelsIn srgb picture → (k : Channel)
+      → OneGreater (channel k (pixelAt srgb picture j)) (channel k (pixelAt (esrgb n) codes j)) (channel k (pixelAt (esrgb n) back j))
+      (channel k (pixelAt srgb back₈ j))
+
+-- Demand 3, of every e-sRGB picture and of every sRGB picture, at one depth n, in destinations that held anything before
+-- (b₀ to b₄).
+pub record Demand3 : Type 0 where
+  pub of-codes :
+      (n : ℕ) → offered n ≡ true
+      → (codes b₁ sheet b₂ back : List ℕ) (a₁ a₂ : Said)
+      → Picture (esrgb n) codes
+      → Call (ToLumaChroma n) codes b₁ sheet a₁
+      → Call (FromLumaChroma n) sheet b₂ back a₂
+      → RoundTrip n codes sheet back a₁ a₂
+  pub of-srgb :
+      (n : ℕ) → offered n ≡ true
+      → (picture b₀ codes b₁ sheet b₂ back b₃ codes₈ b₄ back₈ : List ℕ) (a₀ a₁ a₂ a₃ a₄ : Said)
+      → Picture srgb picture
+      → Call (FromSrgb n) picture b₀ codes a₀
+      → Call (ToLumaChroma n) codes b₁ sheet a₁
+      → Call (FromLumaChroma n) sheet b₂ back a₂
+      → Call (ToSrgb n) codes b₃ codes₈ a₃
+      → Call (ToSrgb n) back b₄ back₈ a₄
+      → Picture (esrgb n) codes × RoundTrip n codes sheet back a₁ a₂ × BackToEight n picture codes back codes₈ back₈ a₀ a₃ a₄

@@ -1,0 +1,48 @@
+-- How many samples and pixels a buffer has, and where each stands.
+-- Assumes nothing.
+use Prim.Native.Nat.{ℕ, zero, suc, _+_, _*_, _/_, _<_}
+use mathlib.Core.Path.{_≡_, refl}
+use mathlib.Core.Bool.{Bool, true, false}
+use mathlib.Core.List.{List, [], _∷_}
+use native.Mathlib.Omega.{arith}
+use lib.ListN.{length, getD}
+use Rattle.numbers.specs.Bytes.{littleEndian}
+use Rattle.samples.specs.Samples.{sampleCount, samplesOf, twoByTwo, pixelsOf}
+
+pub length-two : (bytes : List ℕ) → length (twoByTwo bytes) ≡ length bytes / 2
+length-two [] = refl
+length-two (low ∷ []) = refl
+length-two (low ∷ high ∷ rest) = omega (arith, length-two rest)
+
+pub length-samples : (wide : Bool) (bytes : List ℕ) → length (samplesOf wide bytes) ≡ sampleCount wide (length bytes)
+length-samples true bytes = length-two bytes
+length-samples false bytes = refl
+
+pub length-pixels : (xs : List ℕ) → length (pixelsOf xs) ≡ length xs / 3
+length-pixels [] = refl
+length-pixels (a ∷ []) = refl
+length-pixels (a ∷ b ∷ []) = refl
+length-pixels (a ∷ b ∷ c ∷ rest) = omega (arith, length-pixels rest)
+
+pub two-at : (bytes : List ℕ) (k : ℕ) → 2 * k + 1 < length bytes
+    → getD (twoByTwo bytes) k 0 ≡ littleEndian (getD bytes (2 * k) 0 ∷ getD bytes (2 * k + 1) 0 ∷ [])
+two-at [] k h = absurd (omega arith)
+two-at (low ∷ []) k h = absurd (omega arith)
+two-at (low ∷ high ∷ rest) zero h = refl
+two-at (low ∷ high ∷ rest) (suc k) h =
+    let e : 2 * suc k ≡ suc (suc (2 * k)) = omega arith in
+    let f : 2 * suc k + 1 ≡ suc (suc (2 * k + 1)) = omega arith in
+    rw (f, e) (two-at rest k (omega arith))
+
+pub pixel-at :
+    (xs : List ℕ) (j : ℕ) → 3 * j + 2 < length xs
+    → getD (pixelsOf xs) j (0, 0, 0) ≡ (getD xs (3 * j) 0, getD xs (3 * j + 1) 0, getD xs (3 * j + 2) 0)
+pixel-at [] j h = absurd (omega arith)
+pixel-at (a ∷ []) j h = absurd (omega arith)
+pixel-at (a ∷ b ∷ []) j h = absurd (omega arith)
+pixel-at (a ∷ b ∷ c ∷ rest) zero h = refl
+pixel-at (a ∷ b ∷ c ∷ rest) (suc j) h =
+    let e : 3 * suc j ≡ suc (suc (suc (3 * j))) = omega arith in
+    let f : 3 * suc j + 1 ≡ suc (suc (suc (3 * j + 1))) = omega arith in
+    let g : 3 * suc j + 2 ≡ suc (suc (suc (3 * j + 2))) = omega arith in
+    rw (g, f, e) (pixel-at rest j (omega arith))

@@ -1,0 +1,56 @@
+use Prim.Native.Nat.{_≤_, _+_, _-_}
+use mathlib.Core.Path.{_≡_, refl, sym, ap, _∙_}
+use mathlib.Core.List.{[]}
+use mathlib.Core.Bool.{not, _&&_}
+use native.Mathlib.Omega.{arith}
+use lib.Dec.{ltb}
+use lib.ListN.{getD, drop, drop-of-length-le}
+use Rattle.samples.proofs.Reading.{length-two}
+use Rattle.samples.proofs.Judging.{within-at, one-more, and-right}
+use Rattle.samples.specs.Samples.{twoByTwo}
+use Rattle.samples.specs.Faults.{allWithin}
+use Rattle.samples.proofs.all_within.Statement.{statement}
+use Rattle.samples.proofs.all_within.Tie as tie
+
+abbrev Inv-loop : tie.InvT-loop
+Inv-loop least greatest src end out₀ k₀ out k = (k ≤ end) × (allWithin least greatest (twoByTwo src) ≡ not out && allWithin least greatest (drop k (twoByTwo src)))
+
+abbrev μ-loop : tie.MeasureT-loop
+μ-loop least greatest src end out₀ k₀ out k = end - k
+
+loop-holds : tie.Need-loop-holds Inv-loop μ-loop
+loop-holds c = (omega arith, refl)
+
+sample-requires : tie.Need-sample-requires Inv-loop μ-loop
+sample-requires c κs = omega arith
+
+add-k : tie.Need-add-k Inv-loop μ-loop
+add-k c = omega arith
+
+loop-less : tie.Need-loop-less Inv-loop μ-loop
+loop-less c = omega arith
+
+loop-again : tie.Need-loop-again Inv-loop μ-loop
+loop-again c =
+    let at = c .before .before in
+    let a = at .before .before .args in
+    let xs = twoByTwo (a .src .now) in
+    let k = at .loop .k in (
+      omega arith,
+      at .loop .inv .1
+          ∙ ap (λ w. not (at .loop .out) && w) (within-at (a .least) (a .greatest) xs k (omega (arith, length-two (a .src .now))))
+          ∙ one-more (at .loop .out) (ltb (getD xs k 0) (a .least)) (ltb (a .greatest) (getD xs k 0)) (allWithin (a .least) (a .greatest) (drop (k + 1) xs))
+          ∙ rw (c .sample .ensures),
+    )
+
+returns : tie.Need-returns Inv-loop μ-loop
+unfolding allWithin
+returns c =
+    let a = c .before .before .before .args in
+    let rest : drop (c .before .loop .k) (twoByTwo (a .src .now)) ≡ [] = drop-of-length-le _ {i = c .before .loop .k} (omega (arith, length-two (a .src .now))) in
+    sym (c .before .loop .inv .1 ∙ rw rest (and-right (not (c .before .loop .out))))
+
+pub all-within-spec : {M : Type 1} → statement M
+all-within-spec =
+    tie.close
+    (tie.spec Inv-loop μ-loop loop-holds sample-requires add-k loop-less loop-again returns)

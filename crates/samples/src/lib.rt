@@ -1,0 +1,114 @@
+// Samples in pixel buffers: one or two bytes each, three to a pixel; and the first sample at fault.
+// It promises the refusal and the place that document 01 fixes, for any buffer and any limit, and
+// asks nothing of a caller.
+use numbers::from_two;
+use refusal::Answer;
+use refusal::Refusal;
+ghost use mathlib.Core.Path.{_≡_};
+ghost use mathlib.Core.Bool.{true};
+ghost use Prim.Native.Nat.{ℕ, _*_, _+_, _<_};
+ghost use lib.ListN.{length, getD};
+ghost use Rattle.refusal.specs.Answers.{Said, said, accepted};
+ghost use Rattle.samples.specs.Samples.{sampleCount, pixelSize, twoByTwo};
+ghost use Rattle.samples.specs.Faults.{fault, judged, verdict, leastOf, allWithin};
+
+// The bytes of a pixel.
+pub fn pixel_size(wide: bool) -> usize
+    ensures { λ r. ⌜ r ≡ pixelSize wide ⌝ }
+{
+    if wide { 6 } else { 3 }
+}
+
+// How many whole samples some bytes hold.
+pub fn sample_count(wide: bool, bytes: usize) -> usize
+    ensures { λ r. ⌜ r ≡ sampleCount wide bytes ⌝ }
+{
+    if wide { bytes / 2 } else { bytes }
+}
+
+// What one sample shows.
+pub enum Finding {
+    Sound,
+    Fault(Refusal),
+}
+
+// Sample x, which has number k of its buffer.
+fn look_at(sheet: bool, greatest: u16, k: usize, x: u16) -> Finding
+    ensures { λ r. ⌜ verdict r ≡ fault sheet greatest k x ⌝ }
+{
+    if greatest < x {
+        return Finding::Fault(Refusal::SampleTooGreat);
+    }
+    if x != 0 {
+        return Finding::Sound;
+    }
+    if k % 3 == 0 {
+        return Finding::Sound;
+    }
+    if sheet {
+        Finding::Fault(Refusal::ChromaZero)
+    } else {
+        Finding::Sound
+    }
+}
+
+// Sample k of a buffer of two-byte samples.
+fn sample(src: &[u8], k: usize) -> u16
+    requires { ⌜ 2 * k + 1 < length (now src) ⌝ }
+    ensures { λ r. ⌜ r ≡ getD (twoByTwo (now (src .entry))) k 0 ⌝ }
+{
+    from_two(src[2 * k], src[2 * k + 1])
+}
+
+// The samples one after another, up to the first at fault.
+fn first_fault(sheet: bool, greatest: u16, src: &[u8], pixels: usize) -> Answer
+    ensures { λ r. ⌜ said r ≡ judged true sheet greatest (accepted pixels) 0 (twoByTwo (now (src .entry))) ⌝ }
+{
+    let end = src.len() / 2;
+    let mut k = 0;
+    while k < end {
+        let found = look_at(sheet, greatest, k, sample(src, k));
+        match found {
+            Finding::Sound => {}
+            Finding::Fault(refusal) => {
+                return Answer::RefusedAt(refusal, 2 * k);
+            }
+        }
+        k += 1;
+    }
+    Answer::Done(pixels)
+}
+
+// The least sample that the quick look takes for sound.
+fn least_of(sheet: bool) -> u16
+    ensures { λ r. ⌜ r ≡ leastOf sheet ⌝ }
+{
+    if sheet { 1 } else { 0 }
+}
+
+// Are all samples from least to greatest? There is no way out before the end, so that a compiler
+// can look at several samples at once.
+fn all_within(least: u16, greatest: u16, src: &[u8]) -> bool
+    ensures { λ r. ⌜ r ≡ allWithin least greatest (twoByTwo (now (src .entry))) ⌝ }
+{
+    let end = src.len() / 2;
+    let mut out = false;
+    let mut k = 0;
+    while k < end {
+        let x = sample(src, k);
+        out = out | (x < least) | (greatest < x);
+        k += 1;
+    }
+    !out
+}
+
+// The samples of a buffer of two-byte samples: the first at fault, or the pixel count where there
+// is none. A picture is nearly always sound, and then the quick look decides.
+pub fn judge(sheet: bool, greatest: u16, src: &[u8], pixels: usize) -> Answer
+    ensures { λ r. ⌜ said r ≡ judged true sheet greatest (accepted pixels) 0 (twoByTwo (now (src .entry))) ⌝ }
+{
+    if all_within(least_of(sheet), greatest, src) {
+        return Answer::Done(pixels);
+    }
+    first_fault(sheet, greatest, src, pixels)
+}

@@ -2,10 +2,14 @@
 -- Assumes nothing.
 use Prim.Native.Nat.{ℕ, _-_, _*_, _^_, _≤_}
 use mathlib.Core.Path.{_≡_, refl}
+use mathlib.Core.Bool.{true}
 use native.Mathlib.Omega.{arith}
+use native.Mathlib.Decide.{ℕ-discrete}
+use lib.Pow.{pow-mono}
+use borrow.Author.Tests.{eqb-true, ne-eqb}
 use Rattle.esrgb.specs.declared.Depth.{Depth}
 use Rattle.esrgb.specs.declared.Depth.the-variants.{Ten, Twelve, Sixteen}
-use Rattle.esrgb.specs.Depths.{bits, middle, offset, step}
+use Rattle.esrgb.specs.Depths.{offered, bits, middle, offset, step}
 
 pub record Scale (n : ℕ) : Type 0 where
   pub whole : 2 ^ n ≡ 512 * step n
@@ -22,3 +26,19 @@ pub scale : (d : Depth) → Scale (bits d)
 scale Ten = record { whole = refl; half = refl; zero-at = refl; some = omega arith; fits = omega arith; half-step = 1; even = refl; least = omega arith; most = omega arith }
 scale Twelve = record { whole = refl; half = refl; zero-at = refl; some = omega arith; fits = omega arith; half-step = 4; even = refl; least = omega arith; most = omega arith }
 scale Sixteen = record { whole = refl; half = refl; zero-at = refl; some = omega arith; fits = omega arith; half-step = 64; even = refl; least = omega arith; most = omega arith }
+
+-- An offered number of bits is that of a depth.
+pub scale-of : (n : ℕ) → offered n ≡ true → Scale n
+scale-of n h = elim (ℕ-discrete n 10) [
+  | yes e ↦ rw e (scale Ten)
+  | no ten ↦ elim (ℕ-discrete n 12) [
+    | yes e ↦ rw e (scale Twelve)
+    | no twelve ↦
+        let e : n ≡ 16 = eqb-true n 16 (simp (ne-eqb n 10 ten, ne-eqb n 12 twelve) at h) in
+        rw e (scale Sixteen)
+  ]
+]
+
+-- From 12 bits on, one code is less than half a step.
+pub deep-step : (n : ℕ) → 12 ≤ n → 8 ≤ step n
+deep-step n h = pow-mono {i = 3} (omega arith)

@@ -7,7 +7,8 @@ use mathlib.Core.List.{List, [], _∷_, map}
 use native.Mathlib.Omega.{arith}
 use lib.ListN.{length}
 use Rattle.samples.specs.Samples.{place, pixelSize, samplesOf, sampleBytes, bytesOf, pixelsOf, samplesIn, read}
-use Rattle.samples.proofs.Reading.{length-two, length-pixels}
+use Rattle.samples.proofs.Reading.{length-two}
+use Rattle.samples.proofs.Buffers.{length-read}
 use Rattle.esrgb.specs.declared.SampleRule.{SampleRule}
 use Rattle.esrgb.specs.Rules.{applied, Computes}
 use Rattle.picture.specs.declared.Conversion.{Conversion}
@@ -26,10 +27,6 @@ room-for false false src dst h r = omega arith
 whole-samples : (w : Bool) (src : List ℕ) → length src % pixelSize w ≡ 0 → length (samplesOf w src) % 3 ≡ 0
 whole-samples true src h = omega (arith, length-two src)
 whole-samples false src h = h
-
-pixel-count : (w : Bool) (src : List ℕ) → length (read w src) ≡ length src / pixelSize w
-pixel-count true src = omega (arith, length-pixels (samplesOf true src), length-two src)
-pixel-count false src = length-pixels src
 
 -- ---- bytes
 each-sample : (f : ℕ → ℕ) (xs : List ℕ) → length xs % 3 ≡ 0 → samplesIn (map (each f) (pixelsOf xs)) ≡ map f xs
@@ -59,7 +56,7 @@ module _ (c : Conversion) (src dst : List ℕ) (fit : Fit c src dst) where
   room-samples = room-for (wideForm (source c)) (wideForm (target c)) src dst (fit .whole) (fit .room)
 
   pub room-pixels : length dst ≡ pixelSize (wideForm (target c)) * length (read (wideForm (source c)) src)
-  room-pixels = rw (pixel-count (wideForm (source c)) src) (fit .room)
+  room-pixels = rw (length-read (wideForm (source c)) src) (fit .room)
 
   pub by-samples :
       (f : ℕ → ℕ) (rule : SampleRule) → pixelOf c ≡ each f → Computes rule f

@@ -1,6 +1,6 @@
 -- Convert: what it answers, and every byte that it leaves in the destination, for any source and any destination.
 -- Assumes nothing.
-use Prim.Native.Nat.{ℕ, _*_, _/_, _%_}
+use Prim.Native.Nat.{ℕ, _*_, _%_}
 use mathlib.Core.List.{List, map}
 use lib.Dec.{eqb}
 use lib.ListN.{length}
@@ -12,7 +12,7 @@ use Rattle.esrgb.specs.Codes.{fromSrgb, toSrgb, changeDepth}
 use Rattle.lumachroma.specs.LumaChroma.{luma, blueChroma, redChroma, redBack, greenBack, blueBack}
 use Rattle.picture.specs.declared.Conversion.{Conversion}
 use Rattle.picture.specs.declared.Conversion.the-variants.{FromSrgb, ToSrgb, ChangeDepth, ToLumaChroma, FromLumaChroma}
-use Rattle.picture.specs.Forms.{bitsOf, isSheet, wideForm, source, target, offers}
+use Rattle.picture.specs.Forms.{bitsOf, isSheet, wideForm, pixelsIn, source, target, offers}
 
 -- What a conversion does to one pixel.
 abbrev pub each : (ℕ → ℕ) → Pixel → Pixel
@@ -33,7 +33,7 @@ pixelOf (FromLumaChroma n) = rgbOf n
 
 -- The pixel count of a source, and the length that its destination needs.
 abbrev pub pixelCount : Conversion → List ℕ → ℕ
-pixelCount c src = length src / pixelSize (wideForm (source c))
+pixelCount c src = pixelsIn (source c) src
 
 abbrev pub needed : Conversion → List ℕ → ℕ
 needed c src = pixelSize (wideForm (target c)) * pixelCount c src

@@ -1,7 +1,10 @@
 -- What a pixel buffer holds, and what each conversion reads and writes.
 -- Assumes nothing.
-use Prim.Native.Nat.{ℕ}
+use Prim.Native.Nat.{ℕ, _/_}
 use mathlib.Core.Bool.{Bool, true, false, _&&_}
+use mathlib.Core.List.{List}
+use lib.ListN.{length}
+use Rattle.samples.specs.Samples.{pixelSize}
 use Rattle.esrgb.specs.Depths.{offered}
 use Rattle.picture.specs.declared.Conversion.{Conversion}
 use Rattle.picture.specs.declared.Conversion.the-variants.{FromSrgb, ToSrgb, ChangeDepth, ToLumaChroma, FromLumaChroma}
@@ -27,6 +30,10 @@ abbrev pub wideForm : Form → Bool
 wideForm srgb = false
 wideForm (esrgb n) = true
 wideForm (lumaChroma n) = true
+
+-- How many pixels a buffer of a form has.
+abbrev pub pixelsIn : Form → List ℕ → ℕ
+pixelsIn form bytes = length bytes / pixelSize (wideForm form)
 
 abbrev pub source : Conversion → Form
 source (FromSrgb n) = srgb

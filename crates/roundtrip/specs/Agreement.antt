@@ -12,8 +12,8 @@ use Rattle.samples.specs.Samples.{Pixel}
 use Rattle.esrgb.specs.Depths.{offered, middle}
 use Rattle.lumachroma.specs.Near.{Near}
 use Rattle.picture.specs.declared.Conversion.the-variants.{FromSrgb, ToSrgb, ToLumaChroma, FromLumaChroma}
-use Rattle.picture.specs.Forms.{srgb, esrgb, lumaChroma}
-use Rattle.roundtrip.specs.Pictures.{Channel, channel, pixelsIn, pixelAt, Picture}
+use Rattle.picture.specs.Forms.{srgb, esrgb, lumaChroma, pixelsIn}
+use Rattle.roundtrip.specs.Pictures.{Channel, channel, pixelAt, Picture}
 use Rattle.roundtrip.specs.Calls.{Call}
 
 -- One pixel of codes e, its luma and chroma s, and what comes back, b: every channel within one; a grey comes back exactly,
@@ -39,8 +39,10 @@ pub record OneGreater (a e b x : ℕ) : Type 0 where
   pub most : x ≤ a + 1
   pub greater : x ≡ a + 1 ↔ ((b ≡ e + 1) × (a < 255))
 
--- Both runs of an sRGB picture brought back to 8 bits, with the answers of those calls and of the first.
+-- Both runs of an sRGB picture brought back to 8 bits, with the answers of those calls and of the first. The picture of codes
+-- has as many pixels, so that the round trip's answers give the sRGB picture's count too.
 pub record BackToEight (n : ℕ) (picture codes back codes₈ back₈ : List ℕ) (made-says codes-says back-says : Said) : Type 0 where
+  pub count : pixelsIn (esrgb n) codes ≡ pixelsIn srgb picture
   pub made : made-says ≡ accepted (pixelsIn srgb picture)
   pub codes-back : codes-says ≡ accepted (pixelsIn srgb picture)
   pub trip-back : back-says ≡ accepted (pixelsIn srgb picture)

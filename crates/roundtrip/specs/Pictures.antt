@@ -1,11 +1,11 @@
 -- Pictures, their pixels and channels (document 01, "Wall run and counter run").
 -- Assumes nothing.
-use Prim.Native.Nat.{ℕ, _/_, _%_, _^_, _<_}
+use Prim.Native.Nat.{ℕ, _%_, _^_, _<_}
 use mathlib.Core.Path.{_≡_}
 use mathlib.Core.List.{List}
 use lib.ListN.{length, getD}
 use Rattle.samples.specs.Samples.{pixelSize, Pixel, read}
-use Rattle.picture.specs.Forms.{Form, bitsOf, wideForm}
+use Rattle.picture.specs.Forms.{Form, bitsOf, wideForm, pixelsIn}
 
 -- "A channel is one sample of a pixel."
 pub data Channel : Type 0 where
@@ -16,15 +16,12 @@ channel first p = p .0
 channel second p = p .1
 channel third p = p .2
 
--- How many pixels a buffer has, and the one with number j.
-abbrev pub pixelsIn : Form → List ℕ → ℕ
-pixelsIn form bytes = length bytes / pixelSize (wideForm form)
-
+-- The pixel with number j of a buffer.
 abbrev pub pixelAt : Form → List ℕ → ℕ → Pixel
 pixelAt form bytes j = getD (read (wideForm form) bytes) j (0, 0, 0)
 
 -- "A picture is here a buffer of whole pixels, an empty one too; each sample of e-sRGB is a code of its depth, each of sRGB
--- any byte."
+-- any byte." So is a sheet's each below 2^n.
 pub record Picture (form : Form) (bytes : List ℕ) : Type 0 where
   pub whole : length bytes % pixelSize (wideForm form) ≡ 0
   pub codes : (j : ℕ) → j < pixelsIn form bytes → (k : Channel) → channel k (pixelAt form bytes j) < 2 ^ bitsOf form

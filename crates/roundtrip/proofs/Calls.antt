@@ -1,0 +1,140 @@
+-- A call of Convert whose source has no sample at fault: it is accepted, and its destination holds the converted pixels.
+-- Assumes nothing.
+use Prim.Native.Nat.{ℕ, _≤_, _<_}
+use mathlib.Core.Path.{_≡_, refl, sym, ap, _∙_}
+use mathlib.Core.Bool.{true, false, false≢true}
+use mathlib.Core.List.{List, map}
+use native.Mathlib.Omega.{arith}
+use native.Mathlib.Nat.{mul-mod-right}
+use borrow.Author.Tests.{eq-eqb}
+use lib.ListN.{length, getD, length-map, List·getD-map}
+use Rattle.refusal.specs.Answers.{Said, accepted, leaves}
+use Rattle.samples.specs.Samples.{pixelSize, Pixel, read}
+use Rattle.samples.proofs.Buffers.{length-read, length-write, pixels-in-size, Fits, written-at}
+use Rattle.samples.proofs.Judging.{SoundPixel, sound-pixels}
+use Rattle.esrgb.specs.Depths.{offered, greatest}
+use Rattle.esrgb.proofs.Scale.{scale-of}
+use Rattle.esrgb.proofs.Eight.{from-srgb-code, to-srgb-byte}
+use Rattle.picture.specs.declared.Conversion.{Conversion}
+use Rattle.picture.specs.declared.Conversion.the-variants.{FromSrgb, ToSrgb, ToLumaChroma, FromLumaChroma}
+use Rattle.picture.specs.Forms.{Form, srgb, esrgb, lumaChroma, bitsOf, isSheet, wideForm, pixelsIn, source, target, offersForm}
+use Rattle.picture.specs.Convert.{pixelOf, needed, sourceSays, convertSays, converted, convertBytes}
+use Rattle.roundtrip.specs.Pictures.{first, second, third, pixelAt, Picture}
+use Rattle.roundtrip.specs.Calls.{Call}
+use Rattle.roundtrip.proofs.Pixel.{Codes, channel-of-each, sheet-codes, sheet-chroma, back-codes}
+
+-- A picture with no sample at fault: of a sheet, no chroma is 0 either.
+pub record Sound (form : Form) (bytes : List ℕ) : Type 0 where
+  pub picture : Picture form bytes
+  pub chroma :
+      isSheet form ≡ true → (j : ℕ) → j < pixelsIn form bytes → (1 ≤ pixelAt form bytes j .1) × (1 ≤ pixelAt form bytes j .2)
+
+-- What a call makes of it.
+pub record Went (c : Conversion) (src after : List ℕ) (answer : Said) : Type 0 where
+  pub says : answer ≡ accepted (pixelsIn (source c) src)
+  pub count : pixelsIn (target c) after ≡ pixelsIn (source c) src
+  pub pixels : (j : ℕ) → j < pixelsIn (source c) src → pixelAt (target c) after j ≡ pixelOf c (pixelAt (source c) src j)
+  pub picture : Picture (target c) after
+
+-- The bytes of a sample hold every code of its form.
+two-bytes-fit : (n : ℕ) → offered n ≡ true → (p : Pixel) → Codes n p → Fits true p
+two-bytes-fit n o p h = omega (arith, scale-of n o, h first, h second, h third)
+
+fits : (form : Form) → offersForm form ≡ true → (p : Pixel) → Codes (bitsOf form) p → Fits (wideForm form) p
+fits srgb o p h = (h first, h second, h third)
+fits (esrgb n) o p h = two-bytes-fit n o p h
+fits (lumaChroma n) o p h = two-bytes-fit n o p h
+
+sound-pixel :
+    (form : Form) (bytes : List ℕ) → Sound form bytes → (j : ℕ) → j < pixelsIn form bytes
+    → SoundPixel (isSheet form) (greatest (bitsOf form)) (pixelAt form bytes j)
+sound-pixel form bytes s j h = record {
+  first = omega (arith, s .picture .codes j h first);
+  second = omega (arith, s .picture .codes j h second);
+  third = omega (arith, s .picture .codes j h third);
+  chroma = λ e. s .chroma e j h;
+}
+
+module _ (c : Conversion) (src : List ℕ) where
+  no-fault : Sound (source c) src → sourceSays c src ≡ accepted (pixelsIn (source c) src)
+  no-fault s =
+      sound-pixels (wideForm (source c)) (isSheet (source c)) (greatest (bitsOf (source c))) _ (0, 0, 0) src (s .picture .whole)
+      (sound-pixel (source c) src s)
+
+  length-converted : length (converted c src) ≡ needed c src
+  unfolding converted
+  length-converted = simp (length-write, length-map, length-read)
+
+  converted-at :
+      (j : ℕ) → j < pixelsIn (source c) src → Fits (wideForm (target c)) (pixelOf c (pixelAt (source c) src j))
+      → pixelAt (target c) (converted c src) j ≡ pixelOf c (pixelAt (source c) src j)
+  unfolding converted
+  converted-at j h f =
+      let ps : List Pixel = read (wideForm (source c)) src in
+      let same : getD (map (pixelOf c) ps) j (pixelOf c (0, 0, 0)) ≡ pixelOf c (getD ps j (0, 0, 0)) = List·getD-map (pixelOf c) ps j (0, 0, 0) in
+      written-at (wideForm (target c)) (map (pixelOf c) ps) j _ _ (simp (length-map, length-read) h) (rw same f) ∙ same
+
+module _ {c : Conversion} {src before after : List ℕ} {answer : Said}
+    (from : offersForm (source c) ≡ true) (to : offersForm (target c) ≡ true) (sound : Sound (source c) src)
+    (codes : (j : ℕ) → j < pixelsIn (source c) src → Codes (bitsOf (target c)) (pixelOf c (pixelAt (source c) src j)))
+    (call : Call c src before after answer) where
+  accepts : answer ≡ accepted (pixelsIn (source c) src)
+  unfolding convertSays
+  accepts =
+      call .called .says
+      ∙ simp (from, to, sound .picture .whole, eq-eqb (length before) (needed c src) (call .room), no-fault c src sound)
+
+  after-is : after ≡ converted c src
+  unfolding convertBytes
+  after-is = call .called .bytes ∙ ap (λ a. leaves a (converted c src) before) (sym (call .called .says) ∙ accepts)
+
+  size : length after ≡ needed c src
+  size = ap length after-is ∙ length-converted c src
+
+  same-count : pixelsIn (target c) after ≡ pixelsIn (source c) src
+  same-count = rw size (pixels-in-size (wideForm (target c)) (pixelsIn (source c) src))
+
+  after-at : (j : ℕ) → j < pixelsIn (source c) src → pixelAt (target c) after j ≡ pixelOf c (pixelAt (source c) src j)
+  after-at j h = rw after-is (converted-at c src j h (fits (target c) to _ (codes j h)))
+
+  goes : Went c src after answer
+  goes = record {
+    says = accepts;
+    count = same-count;
+    pixels = after-at;
+    picture = record {
+      whole = rw size (mul-mod-right (pixelSize (wideForm (target c))) (pixelsIn (source c) src));
+      codes = λ j h k.
+          let i : j < pixelsIn (source c) src = rw same-count at h in
+          rw (after-at j i) (codes j i k);
+    };
+  }
+
+-- ---- the four conversions of both runs
+no-sheet : {form : Form} {bytes : List ℕ} → isSheet form ≡ false → Picture form bytes → Sound form bytes
+no-sheet z p = record { picture = p; chroma = λ e. absurd (false≢true (sym z ∙ e)) }
+
+module _ {n : ℕ} (o : offered n ≡ true) {src before after : List ℕ} {answer : Said} where
+  pub from-srgb : Picture srgb src → Call (FromSrgb n) src before after answer → Went (FromSrgb n) src after answer
+  from-srgb p =
+      goes refl o (no-sheet refl p) (λ j h k. rw channel-of-each (from-srgb-code n _ (scale-of n o) (p .codes j h k)))
+
+  pub to-srgb : Picture (esrgb n) src → Call (ToSrgb n) src before after answer → Went (ToSrgb n) src after answer
+  to-srgb p = goes o refl (no-sheet refl p) (λ j h k. rw channel-of-each (to-srgb-byte n _))
+
+  pub to-sheet : Picture (esrgb n) src → Call (ToLumaChroma n) src before after answer → Went (ToLumaChroma n) src after answer
+  to-sheet p = goes o o (no-sheet refl p) (λ j h. sheet-codes n (scale-of n o) _ (p .codes j h))
+
+  pub from-sheet : Sound (lumaChroma n) src → Call (FromLumaChroma n) src before after answer → Went (FromLumaChroma n) src after answer
+  from-sheet s = goes o o s (λ j h. back-codes n (scale-of n o) _)
+
+-- "Code 0 is never written for chroma": so the sheet can be read.
+pub sheet-sound :
+    {n : ℕ} {src after : List ℕ} {answer : Said} → offered n ≡ true → Picture (esrgb n) src → Went (ToLumaChroma n) src after answer
+    → Sound (lumaChroma n) after
+sheet-sound {n} {src} o p there = record {
+  picture = there .picture;
+  chroma = λ e j h.
+      let i : j < pixelsIn (esrgb n) src = rw (there .count) at h in
+      rw (there .pixels j i) (sheet-chroma n (scale-of n o) _ (p .codes j i));
+}

@@ -1,0 +1,102 @@
+-- Demand 3: from what each call does, what the round trip keeps, and what both runs bring back to 8 bits.
+-- Assumes nothing.
+use Prim.Native.Nat.{ℕ, _*_, _<_}
+use mathlib.Core.Path.{_≡_, ap, _∙_}
+use mathlib.Core.List.{List}
+use native.Mathlib.Omega.{arith}
+use native.Mathlib.Nat.{div-add-mod}
+use lib.ListN.{length}
+use Rattle.refusal.specs.Answers.{Said, accepted}
+use Rattle.samples.specs.Samples.{pixelSize}
+use Rattle.samples.proofs.Buffers.{same-pixels}
+use Rattle.esrgb.specs.Codes.{fromSrgb, toSrgb}
+use Rattle.esrgb.proofs.Scale.{Scale, scale-of, deep-step}
+use Rattle.esrgb.proofs.Eight.{to-srgb-exact}
+use Rattle.lumachroma.specs.Near.{Near}
+use Rattle.picture.specs.declared.Conversion.the-variants.{FromSrgb, ToSrgb, ToLumaChroma, FromLumaChroma}
+use Rattle.picture.specs.Forms.{Form, srgb, esrgb, wideForm, pixelsIn}
+use Rattle.picture.specs.Convert.{lumaChromaOf, rgbOf}
+use Rattle.roundtrip.specs.Pictures.{Channel, channel, pixelAt, Picture}
+use Rattle.roundtrip.specs.Agreement.{RoundTrip, BackToEight, Demand3}
+use Rattle.roundtrip.proofs.Pixel.{by-channels, channel-of-each, kept, near-exact, one-greater}
+use Rattle.roundtrip.proofs.Calls.{Went, from-srgb, to-srgb, to-sheet, from-sheet, sheet-sound}
+
+-- Pictures of one form with as many pixels are equally long, and sRGB pictures with the same channels are the same.
+same-length :
+    {form : Form} {xs ys : List ℕ} → Picture form xs → Picture form ys → pixelsIn form xs ≡ pixelsIn form ys → length xs ≡ length ys
+same-length {form} {xs} {ys} p q h =
+    let size : ℕ = pixelSize (wideForm form) in
+    let same : size * pixelsIn form xs ≡ size * pixelsIn form ys = ap (λ count. size * count) h in
+    omega (arith, div-add-mod (length xs) size, div-add-mod (length ys) size, p .whole, q .whole)
+
+same-picture :
+    {xs ys : List ℕ} → Picture srgb xs → Picture srgb ys → pixelsIn srgb xs ≡ pixelsIn srgb ys
+    → ((j : ℕ) → j < pixelsIn srgb ys → (k : Channel) → channel k (pixelAt srgb xs j) ≡ channel k (pixelAt srgb ys j)) → xs ≡ ys
+same-picture p q count h = same-pixels (0, 0, 0) _ _ (p .whole) (same-length p q count) (λ j i. by-channels _ _ (h j (rw count at i)))
+
+-- ---- the round trip
+module _ {n : ℕ} (s : Scale n) {codes sheet back : List ℕ} {a₁ a₂ : Said} (p : Picture (esrgb n) codes)
+    (there : Went (ToLumaChroma n) codes sheet a₁) (again : Went (FromLumaChroma n) sheet back a₂) where
+  back-at : (j : ℕ) → j < pixelsIn (esrgb n) codes → pixelAt (esrgb n) back j ≡ rgbOf n (lumaChromaOf n (pixelAt (esrgb n) codes j))
+  back-at j h = again .pixels j (rw (there .count) h) ∙ ap (rgbOf n) (there .pixels j h)
+
+  round-trip : RoundTrip n codes sheet back a₁ a₂
+  round-trip = record {
+    there = there .says;
+    again = again .says ∙ ap accepted (there .count);
+    size = same-length (again .picture) p (again .count ∙ there .count);
+    kept = λ j h. rw (back-at j h, there .pixels j h) (kept n s _ (p .codes j h));
+  }
+
+-- ---- both runs, from sRGB and back to it
+module _ {n : ℕ} (s : Scale n) {picture codes sheet back codes₈ back₈ : List ℕ} {a₀ a₁ a₂ a₃ a₄ : Said} (p : Picture srgb picture)
+    (made : Went (FromSrgb n) picture codes a₀) (trip : RoundTrip n codes sheet back a₁ a₂)
+    (codes-to : Went (ToSrgb n) codes codes₈ a₃) (back-to : Went (ToSrgb n) back back₈ a₄) where
+  back-count : pixelsIn (esrgb n) back ≡ pixelsIn srgb picture
+  back-count = rw (trip .size) (made .count)
+
+  -- Channel k of pixel j.
+  module _ (j : ℕ) (h : j < pixelsIn srgb picture) (k : Channel) where
+    its-code : channel k (pixelAt (esrgb n) codes j) ≡ fromSrgb n (channel k (pixelAt srgb picture j))
+    its-code = ap (channel k) (made .pixels j h) ∙ channel-of-each (fromSrgb n) _ k
+
+    near-its-code : Near (fromSrgb n (channel k (pixelAt srgb picture j))) (channel k (pixelAt (esrgb n) back j))
+    near-its-code = rw its-code at (trip .kept j (rw (made .count) h) .near k)
+
+    code-to-eight : channel k (pixelAt srgb codes₈ j) ≡ channel k (pixelAt srgb picture j)
+    code-to-eight =
+        ap (channel k) (codes-to .pixels j (rw (made .count) h))
+        ∙ channel-of-each (toSrgb n) _ k
+        ∙ ap (toSrgb n) its-code
+        ∙ to-srgb-exact n _ s (p .codes j h k)
+
+    back-to-eight : channel k (pixelAt srgb back₈ j) ≡ toSrgb n (channel k (pixelAt (esrgb n) back j))
+    back-to-eight = ap (channel k) (back-to .pixels j (rw back-count h)) ∙ channel-of-each (toSrgb n) _ k
+
+  both-back : BackToEight n picture codes back codes₈ back₈ a₀ a₃ a₄
+  both-back = record {
+    count = made .count;
+    made = made .says;
+    codes-back = codes-to .says ∙ ap accepted (made .count);
+    trip-back = back-to .says ∙ ap accepted back-count;
+    codes-exact = same-picture (codes-to .picture) p (codes-to .count ∙ made .count) code-to-eight;
+    size = same-length (back-to .picture) p (back-to .count ∙ back-count);
+    trip-exact = λ deep.
+        same-picture (back-to .picture) p (back-to .count ∙ back-count)
+        (λ j h k. back-to-eight j h k ∙ near-exact n _ _ s (p .codes j h k) (near-its-code j h k) (omega (arith, deep-step n deep)));
+    trip-at-ten = λ ten j h k.
+        rw (back-to-eight j h k, its-code j h k) (one-greater n _ _ s (p .codes j h k) (near-its-code j h k) (rw ten));
+  }
+
+pub demand3 : Demand3
+demand3 = record {
+  of-codes = λ n o codes b₁ sheet b₂ back a₁ a₂ p c₁ c₂.
+      let there = to-sheet o p c₁ in
+      round-trip (scale-of n o) p there (from-sheet o (sheet-sound o p there) c₂);
+  of-srgb = λ n o picture b₀ codes b₁ sheet b₂ back b₃ codes₈ b₄ back₈ a₀ a₁ a₂ a₃ a₄ p c₀ c₁ c₂ c₃ c₄.
+      let made = from-srgb o p c₀ in
+      let there = to-sheet o (made .picture) c₁ in
+      let again = from-sheet o (sheet-sound o (made .picture) there) c₂ in
+      let trip = round-trip (scale-of n o) (made .picture) there again in
+      (made .picture, trip, both-back (scale-of n o) p made trip (to-srgb o (made .picture) c₃) (to-srgb o (again .picture) c₄));
+}

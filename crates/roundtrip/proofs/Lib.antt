@@ -1,0 +1,3 @@
+pub mod Pixel
+pub mod Calls
+pub mod Demand

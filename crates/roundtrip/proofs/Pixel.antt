@@ -1,0 +1,84 @@
+-- One pixel of each conversion of the two runs, channel by channel.
+-- Assumes nothing.
+use Prim.Native.Nat.{ℕ, _+_, _^_, _≤_, _<_, min}
+use mathlib.Core.Path.{_≡_, refl}
+use native.Mathlib.Omega.{arith}
+use native.Mathlib.Decide.{decLt}
+use Rattle.samples.specs.Samples.{Pixel}
+use Rattle.esrgb.specs.Depths.{step}
+use Rattle.esrgb.specs.Codes.{fromSrgb, toSrgb}
+use Rattle.esrgb.proofs.Scale.{Scale}
+use Rattle.esrgb.proofs.Eight.{from-srgb-next, to-srgb-nearest}
+use Rattle.lumachroma.specs.Near.{Near}
+use Rattle.lumachroma.proofs.Pixel.{luma-bounds, blue-chroma-bounds, red-chroma-bounds, red-near, green-near, blue-near}
+use Rattle.lumachroma.proofs.Pixel.{grey-blue-chroma, grey-red-chroma, grey-red, grey-green, grey-blue, red-code, green-code, blue-code}
+use Rattle.picture.specs.Convert.{each, lumaChromaOf, rgbOf}
+use Rattle.roundtrip.specs.Pictures.{Channel, first, second, third, channel}
+use Rattle.roundtrip.specs.Agreement.{Kept, OneGreater}
+
+-- Every channel of a pixel is a number of so many bits.
+abbrev pub Codes : ℕ → Pixel → Type 0
+Codes bits p = (k : Channel) → channel k p < 2 ^ bits
+
+pub by-channels : (p q : Pixel) → ((k : Channel) → channel k p ≡ channel k q) → p ≡ q
+by-channels p q h = λ i. (h first i, h second i, h third i)
+
+pub channel-of-each : (f : ℕ → ℕ) (p : Pixel) (k : Channel) → channel k (each f p) ≡ f (channel k p)
+channel-of-each f p first = refl
+channel-of-each f p second = refl
+channel-of-each f p third = refl
+
+-- ---- to luma and chroma, and back
+pub back-codes : (n : ℕ) (s : Scale n) (p : Pixel) → Codes n (rgbOf n p)
+back-codes n s p first = red-code n (p .0) (p .1) (p .2) s
+back-codes n s p second = green-code n (p .0) (p .1) (p .2) s
+back-codes n s p third = blue-code n (p .0) (p .1) (p .2) s
+
+module _ (n : ℕ) (s : Scale n) (p : Pixel) (h : Codes n p) where
+  pub sheet-codes : Codes n (lumaChromaOf n p)
+  sheet-codes first = luma-bounds n _ _ _ s (h first) (h second) (h third) .most
+  sheet-codes second = blue-chroma-bounds n _ _ _ s (h first) (h second) (h third) .most
+  sheet-codes third = red-chroma-bounds n _ _ _ s (h first) (h second) (h third) .most
+
+  pub sheet-chroma : (1 ≤ lumaChromaOf n p .1) × (1 ≤ lumaChromaOf n p .2)
+  sheet-chroma =
+      (blue-chroma-bounds n _ _ _ s (h first) (h second) (h third) .least, red-chroma-bounds n _ _ _ s (h first) (h second) (h third) .least)
+
+  near : (k : Channel) → Near (channel k p) (channel k (rgbOf n (lumaChromaOf n p)))
+  near first = red-near n _ _ _ s (h first) (h second) (h third)
+  near second = green-near n _ _ _ s (h first) (h second) (h third)
+  near third = blue-near n _ _ _ s (h first) (h second) (h third)
+
+  module _ (rg : p .0 ≡ p .1) (gb : p .1 ≡ p .2) where
+    grey-back : (k : Channel) → channel k (rgbOf n (lumaChromaOf n p)) ≡ channel k p
+    grey-back first = grey-red n _ _ _ s (h first) (h second) (h third) rg gb
+    grey-back second = grey-green n _ _ _ s (h first) (h second) (h third) rg gb
+    grey-back third = grey-blue n _ _ _ s (h first) (h second) (h third) rg gb
+
+  pub kept : Kept n p (lumaChromaOf n p) (rgbOf n (lumaChromaOf n p))
+  kept = record {
+    near = near;
+    grey = λ rg gb. (
+      by-channels _ _ (grey-back rg gb),
+      grey-blue-chroma n _ _ _ s (h first) (h second) (h third) rg gb,
+      grey-red-chroma n _ _ _ s (h first) (h second) (h third) rg gb,
+    );
+  }
+
+-- ---- the round trip's codes, to 8 bits: b is within one of the code of a
+module _ (n a b : ℕ) (s : Scale n) (h : a < 256) (near-code : Near (fromSrgb n a) b) where
+  pub near-exact : 2 < step n → toSrgb n b ≡ a
+  near-exact k = omega (arith, to-srgb-nearest n a b s (omega arith) (omega arith))
+
+  -- A step of 2 codes makes one code more a tie, which goes upward.
+  pub one-greater : step n ≡ 2 → OneGreater a (fromSrgb n a) b (toSrgb n b)
+  one-greater k =
+      elim (decLt (fromSrgb n a) b) [
+        | yes above ↦
+            let next : fromSrgb n (a + 1) ≡ fromSrgb n a + step n = from-srgb-next n a in
+            let x : toSrgb n b ≡ min 255 (a + 1) = to-srgb-nearest n (a + 1) b s (omega arith) (omega arith) in
+            omega arith
+        | no not-above ↦
+            let x : toSrgb n b ≡ min 255 a = to-srgb-nearest n a b s (omega arith) (omega arith) in
+            omega arith
+      ]

@@ -4,7 +4,7 @@ use Prim.Native.Nat.{ℕ, _*_, _/_, _%_, _^_, _<_, _≤_}
 use mathlib.Core.Path.{_≡_, refl, sym, ap, ap₂, _∙_}
 use mathlib.Core.Bool.{Bool, true, false, false≢true}
 use mathlib.Core.List.{List}
-use native.Mathlib.Nat.{div-mul-le-self, mul-le-mul-left, mul-le-mul-right}
+use native.Mathlib.Nat.{le-pred-of-lt, div-mul-le-self, mul-le-mul-left, mul-le-mul-right}
 use native.Mathlib.Omega.{arith}
 use borrow.Author.Tests.{eq-eqb, ne-eqb, eqb-true}
 use lib.Dec.{eqb}
@@ -12,7 +12,7 @@ use lib.ListN.{length, getD}
 use Rattle.refusal.specs.Answers.{Said, accepted, refused, leaves}
 use Rattle.samples.specs.Samples.{pixelSize, twoByTwo}
 use Rattle.samples.specs.Faults.{judged, inOrder}
-use Rattle.samples.proofs.Judging.{and-false, bytes-sound}
+use Rattle.samples.proofs.Judging.{and-false, none-above}
 use Rattle.esrgb.specs.declared.Depth.{Depth}
 use Rattle.esrgb.specs.declared.Depth.the-variants.{Ten, Twelve, Sixteen}
 use Rattle.esrgb.specs.Depths.{offered, bits, greatest}
@@ -94,7 +94,7 @@ wide-says (FromLumaChroma n) g src w e = rw e
 pub narrow-says :
     (c : Conversion) (src : List ℕ) → wideForm (source c) ≡ false → ((i : ℕ) → getD src i 0 < 256)
     → accepted (length src / 3) ≡ sourceSays c src
-narrow-says (FromSrgb n) src w h = sym (bytes-sound false (accepted (length src / 3)) 0 src h)
+narrow-says (FromSrgb n) src w h = sym (none-above false 255 (accepted (length src / 3)) 0 src (λ i. le-pred-of-lt (h i)))
 narrow-says (ToSrgb n) src w h = absurd (false≢true (sym w))
 narrow-says (ChangeDepth n m) src w h = absurd (false≢true (sym w))
 narrow-says (ToLumaChroma n) src w h = absurd (false≢true (sym w))

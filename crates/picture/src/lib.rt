@@ -8,6 +8,7 @@ use esrgb::SampleRule;
 use lumachroma::LumaChroma;
 use lumachroma::Rgb;
 use numbers::from_two;
+use numbers::two_bytes;
 use refusal::Answer;
 use refusal::Refusal;
 ghost use mathlib.Core.Path.{_≡_};
@@ -58,8 +59,9 @@ fn put(dst: &mut [u8], wide: bool, k: usize, x: u16)
     ensures { λ _. ⌜ take (place wide (k + 1)) (now (dst .exit)) ≡ take (place wide k) (now (dst .entry)) ++ sampleBytes wide x ⌝ }
 {
     if wide {
-        dst[2 * k] = (x % 256) as u8;
-        dst[2 * k + 1] = (x / 256 % 256) as u8;
+        let bytes = two_bytes(x);
+        dst[2 * k] = bytes.low;
+        dst[2 * k + 1] = bytes.high;
     } else {
         dst[k] = (x % 256) as u8;
     }

@@ -1,3 +1,4 @@
 pub mod Pixel
 pub mod Calls
 pub mod Demand
+pub mod Programs

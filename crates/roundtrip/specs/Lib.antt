@@ -1,3 +1,4 @@
 pub mod Pictures
 pub mod Calls
 pub mod Agreement
+pub mod Programs

@@ -1,1 +1,59 @@
-// Demand 3.
+// Demand 3: a picture and its round trip through luma and chroma agree. `specs/Agreement.antt` states it of
+// every picture and the whole chain of Convert's calls, and `proofs/Demand.antt` proves it. The two
+// functions here make those calls, in buffers that the caller lends, and promise the same.
+use picture::Conversion;
+use refusal::Answer;
+ghost use Rattle.refusal.specs.Answers.{said};
+ghost use Rattle.roundtrip.specs.Programs.{Trip, BothRuns};
+
+// The answers of the two calls.
+pub struct TripAnswers {
+    pub there: Answer,
+    pub again: Answer,
+}
+
+// Document 01's counter run: a picture of codes to luma and chroma, and back in a third buffer.
+pub fn round_trip(depth: u32, codes: &[u8], sheet: &mut [u8], back: &mut [u8]) -> TripAnswers
+    ensures { λ r. ⌜ Trip depth (now (codes .entry)) (now (sheet .entry)) (now (sheet .exit)) (now (back .entry)) (now (back .exit)) (said (r .there)) (said (r .again)) ⌝ }
+{
+    let there = picture::convert(Conversion::ToLumaChroma { depth }, codes, sheet);
+    let again = picture::convert(Conversion::FromLumaChroma { depth }, sheet, back);
+    TripAnswers { there, again }
+}
+
+// The answers of the five calls, in their order.
+pub struct RunAnswers {
+    pub made: Answer,
+    pub there: Answer,
+    pub again: Answer,
+    pub direct: Answer,
+    pub round: Answer,
+}
+
+// Both runs of an sRGB picture: to codes, those through luma and chroma and back, and then both pictures of
+// codes to 8 bits, each in a buffer of its own.
+pub fn both_runs(
+    depth: u32,
+    picture: &[u8],
+    codes: &mut [u8],
+    sheet: &mut [u8],
+    back: &mut [u8],
+    direct: &mut [u8],
+    round: &mut [u8],
+) -> RunAnswers
+    ensures { λ r. ⌜ BothRuns depth (now (picture .entry)) (now (codes .entry)) (now (codes .exit)) (now (sheet .entry)) (now (sheet .exit)) (now (back .entry)) (now (back .exit)) (now (direct .entry)) (now (direct .exit)) (now (round .entry)) (now (round .exit)) (said (r .made)) (said (r .there)) (said (r .again)) (said (r .direct)) (said (r .round)) ⌝ }
+{
+    let made = picture::convert(Conversion::FromSrgb { depth }, picture, codes);
+    let trip = round_trip(depth, codes, sheet, back);
+    let there = trip.there;
+    let again = trip.again;
+    let first = picture::convert(Conversion::ToSrgb { depth }, codes, direct);
+    let second = picture::convert(Conversion::ToSrgb { depth }, back, round);
+    RunAnswers {
+        made,
+        there,
+        again,
+        direct: first,
+        round: second,
+    }
+}

@@ -1,18 +1,18 @@
 -- Samples judged one after another: what one more sample changes, and when none is at fault.
 -- Assumes nothing.
-use Prim.Native.Nat.{ℕ, suc, _+_, _/_, _%_, _≤_, _<_}
-use mathlib.Core.Path.{_≡_, refl, sym}
+use Prim.Native.Nat.{ℕ, zero, suc, _+_, _*_, _/_, _%_, _≤_, _<_}
+use mathlib.Core.Path.{_≡_, refl, sym, ap, _∙_}
 use mathlib.Core.Bool.{Bool, true, false, false≢true, not, _&&_, _||_}
 use mathlib.Core.List.{List, [], _∷_}
 use native.Mathlib.Omega.{arith}
 use native.Mathlib.Numerals.{add-one}
-use borrow.Author.Tests.{eq-eqb, ne-eqb, le-ltb, ltb-false, not-true}
-use lib.Dec.{ltb}
+use borrow.Author.Tests.{eq-eqb, ne-eqb, le-ltb, ltb-false, eqb-false, not-true}
+use lib.Dec.{ltb, eqb}
 use lib.ListN.{length, getD, drop}
 use lib.Seq.{drop-cons}
 use Rattle.refusal.specs.Answers.{Said}
 use Rattle.samples.specs.Samples.{place, pixelSize, twoByTwo, samplesOf, Pixel, pixelsOf, read}
-use Rattle.samples.specs.Faults.{sound, fault, decides, judged, leastOf, allWithin}
+use Rattle.samples.specs.Faults.{sound, fault, decides, judged, leastOf, allWithin, atFault, SoundTo}
 use Rattle.samples.proofs.Reading.{length-two}
 
 pub judged-at :
@@ -70,14 +70,23 @@ within-sound wide sheet greatest done k (x ∷ xs) h =
     let least : leastOf sheet ≤ x = ltb-false x (leastOf sheet) (q .0) in
     rw (sound-sample sheet greatest k x (ltb-false greatest x (q .1)) (λ e. rw e at least)) (within-sound wide sheet greatest done (k + 1) xs (p .1))
 
--- Bytes one by one: none is above 255.
-pub bytes-sound :
-    (wide : Bool) (done : Said) (k : ℕ) (bytes : List ℕ) → ((i : ℕ) → getD bytes i 0 < 256) → judged wide false 255 done k bytes ≡ done
+-- Samples that cannot be at fault: no byte is above 255, and no two bytes are above 65,535.
+pub none-above :
+    (wide : Bool) (greatest : ℕ) (done : Said) (k : ℕ) (xs : List ℕ) → ((i : ℕ) → getD xs i 0 ≤ greatest)
+    → judged wide false greatest done k xs ≡ done
 unfolding judged
-bytes-sound wide done k [] h = refl
-bytes-sound wide done k (x ∷ xs) h =
-    let byte : x < 256 = h 0 in
-    rw (sound-sample false 255 k x (omega arith) (λ e. absurd (false≢true e))) (bytes-sound wide done (k + 1) xs (λ i. h (suc i)))
+none-above wide greatest done k [] h = refl
+none-above wide greatest done k (x ∷ xs) h =
+    rw (sound-sample false greatest k x (h 0) (λ e. absurd (false≢true e))) (none-above wide greatest done (k + 1) xs (λ i. h (suc i)))
+
+pub two-below : (bytes : List ℕ) → ((i : ℕ) → getD bytes i 0 < 256) → (i : ℕ) → getD (twoByTwo bytes) i 0 ≤ 65535
+two-below [] h i = omega arith
+two-below (low ∷ []) h i = omega arith
+two-below (low ∷ high ∷ rest) h zero =
+    let a : low < 256 = h 0 in
+    let b : high < 256 = h 1 in
+    omega arith
+two-below (low ∷ high ∷ rest) h (suc i) = two-below rest (λ j. h (suc (suc j))) i
 
 -- ---- pixels with no sample at fault: none is above the greatest, and of a sheet no chroma is 0
 pub record SoundPixel (sheet : Bool) (greatest : ℕ) (p : Pixel) : Type 0 where
@@ -114,3 +123,46 @@ sound-pixels true sheet greatest done d bytes whole h =
     let size : length (twoByTwo bytes) ≡ length bytes / 2 = length-two bytes in
     sound-samples true sheet greatest done d 0 (twoByTwo bytes) refl (omega arith) (λ j i. h j (omega arith))
 sound-pixels false sheet greatest done d bytes whole h = sound-samples false sheet greatest done d 0 bytes refl whole h
+
+-- ---- pixels skipped one by one
+no-fault : (sheet : Bool) (greatest : ℕ) (p : Pixel) → atFault sheet greatest p ≡ false → SoundPixel sheet greatest p
+no-fault sheet greatest p h =
+    let q = or-false (ltb greatest (p .0) || ltb greatest (p .1) || ltb greatest (p .2)) (sheet && (eqb (p .1) 0 || eqb (p .2) 0)) h in
+    let r = or-false (ltb greatest (p .0) || ltb greatest (p .1)) (ltb greatest (p .2)) (q .0) in
+    let s = or-false (ltb greatest (p .0)) (ltb greatest (p .1)) (r .0) in
+    record {
+      first = ltb-false greatest (p .0) (s .0);
+      second = ltb-false greatest (p .1) (s .1);
+      third = ltb-false greatest (p .2) (r .1);
+      chroma = λ e.
+          let z = or-false (eqb (p .1) 0) (eqb (p .2) 0) (rw e at (q .1)) in
+          let b : p .1 ≡ 0 → ⊥ = eqb-false (p .1) 0 (z .0) in
+          let c : p .2 ≡ 0 → ⊥ = eqb-false (p .2) 0 (z .1) in
+          (omega arith, omega arith);
+    }
+
+module _ (sheet : Bool) (greatest : ℕ) (xs : List ℕ) where
+  pub sound-none : SoundTo sheet greatest xs 0
+  sound-none = record { inside = omega arith; skips = λ done. refl }
+
+  skip-one :
+      (k : ℕ) (done : Said) → k < length xs → fault sheet greatest k (getD xs k 0) ≡ sound
+      → judged true sheet greatest done k (drop k xs) ≡ judged true sheet greatest done (k + 1) (drop (k + 1) xs)
+  skip-one k done h e =
+      judged-at true sheet greatest done xs k h ∙ ap (λ v. decides v (2 * k) (judged true sheet greatest done (k + 1) (drop (k + 1) xs))) e
+
+  pub sound-more :
+      (i : ℕ) → 3 * i + 2 < length xs → atFault sheet greatest (getD xs (3 * i) 0, getD xs (3 * i + 1) 0, getD xs (3 * i + 2) 0) ≡ false
+      → SoundTo sheet greatest xs (3 * i) → SoundTo sheet greatest xs (3 * (i + 1))
+  sound-more i h f s =
+      let p = no-fault sheet greatest (getD xs (3 * i) 0, getD xs (3 * i + 1) 0, getD xs (3 * i + 2) 0) f in
+      let two : 3 * i + 1 + 1 ≡ 3 * i + 2 = omega arith in
+      let three : 3 * i + 2 + 1 ≡ 3 * (i + 1) = omega arith in
+      record {
+        inside = omega arith;
+        skips = λ done.
+            s .skips done
+            ∙ skip-one (3 * i) done (omega arith) (sound-first sheet greatest (3 * i) _ (omega arith) (p .first))
+            ∙ skip-one (3 * i + 1) done (omega arith) (sound-sample sheet greatest (3 * i + 1) _ (p .second) (λ e. p .chroma e .0))
+            ∙ rw (two, ← three) (skip-one (3 * i + 2) done (omega arith) (sound-sample sheet greatest (3 * i + 2) _ (p .third) (λ e. p .chroma e .1)));
+      }

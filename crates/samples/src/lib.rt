@@ -10,7 +10,7 @@ ghost use Prim.Native.Nat.{ℕ, _*_, _+_, _<_};
 ghost use lib.ListN.{length, getD};
 ghost use Rattle.refusal.specs.Answers.{Said, said, accepted};
 ghost use Rattle.samples.specs.Samples.{sampleCount, pixelSize, twoByTwo};
-ghost use Rattle.samples.specs.Faults.{fault, judged, verdict, leastOf, allWithin};
+ghost use Rattle.samples.specs.Faults.{fault, judged, verdict, leastOf, allWithin, atFault, SoundTo};
 
 // The bytes of a pixel.
 pub fn pixel_size(wide: bool) -> usize
@@ -60,12 +60,44 @@ fn sample(src: &[u8], k: usize) -> u16
     from_two(src[2 * k], src[2 * k + 1])
 }
 
-// The samples one after another, up to the first at fault.
-fn first_fault(sheet: bool, greatest: u16, src: &[u8], pixels: usize) -> Answer
+// Is one of a pixel's samples at fault? One answer for the three, with no branch between them.
+fn at_fault(sheet: bool, greatest: u16, a: u16, b: u16, c: u16) -> bool
+    ensures { λ r. ⌜ r ≡ atFault sheet greatest (a, b, c) ⌝ }
+{
+    (greatest < a) | (greatest < b) | (greatest < c) | (sheet & ((b == 0) | (c == 0)))
+}
+
+// The number of the first sample of the first pixel at fault; where there is none, of the sample behind the
+// last whole pixel. A pixel takes one test, which is what makes it quick.
+fn sound_start(sheet: bool, greatest: u16, src: &[u8]) -> usize
+    ensures { λ r. ⌜ SoundTo sheet greatest (twoByTwo (now (src .entry))) r ⌝ }
+{
+    let end = src.len() / 6;
+    let mut i = 0;
+    while i < end {
+        let k = 3 * i;
+        let faulty = at_fault(
+            sheet,
+            greatest,
+            sample(src, k),
+            sample(src, k + 1),
+            sample(src, k + 2),
+        );
+        if faulty {
+            return k;
+        }
+        i += 1;
+    }
+    3 * end
+}
+
+// The samples one after another from number `start` on, up to the first at fault.
+fn first_fault(sheet: bool, greatest: u16, src: &[u8], pixels: usize, start: usize) -> Answer
+    requires { ⌜ SoundTo sheet greatest (twoByTwo (now src)) start ⌝ }
     ensures { λ r. ⌜ said r ≡ judged true sheet greatest (accepted pixels) 0 (twoByTwo (now (src .entry))) ⌝ }
 {
     let end = src.len() / 2;
-    let mut k = 0;
+    let mut k = start;
     while k < end {
         let found = look_at(sheet, greatest, k, sample(src, k));
         match found {
@@ -103,12 +135,19 @@ fn all_within(least: u16, greatest: u16, src: &[u8]) -> bool
 }
 
 // The samples of a buffer of two-byte samples: the first at fault, or the pixel count where there
-// is none. A picture is nearly always sound, and then the quick look decides.
+// is none. A picture is nearly always sound, and then the quick look decides;
+// of 16 bits, no sample of codes can be at fault, and none is looked at.
 pub fn judge(sheet: bool, greatest: u16, src: &[u8], pixels: usize) -> Answer
     ensures { λ r. ⌜ said r ≡ judged true sheet greatest (accepted pixels) 0 (twoByTwo (now (src .entry))) ⌝ }
 {
+    if greatest == 65535 {
+        if !sheet {
+            return Answer::Done(pixels);
+        }
+    }
     if all_within(least_of(sheet), greatest, src) {
         return Answer::Done(pixels);
     }
-    first_fault(sheet, greatest, src, pixels)
+    let start = sound_start(sheet, greatest, src);
+    first_fault(sheet, greatest, src, pixels, start)
 }

@@ -1,5 +1,5 @@
 use Prim.Native.Nat.{_≤_, _+_, _-_, _*_}
-use mathlib.Core.Path.{_≡_, refl, sym, ap, _∙_}
+use mathlib.Core.Path.{_≡_, sym, ap, _∙_}
 use mathlib.Core.List.{[]}
 use mathlib.Core.Bool.{true}
 use native.Mathlib.Omega.{arith}
@@ -15,10 +15,10 @@ use Rattle.samples.proofs.first_fault.Statement.{statement}
 use Rattle.samples.proofs.first_fault.Tie as tie
 
 abbrev Inv-loop : tie.InvT-loop
-Inv-loop sheet greatest src pixels end k₀ k = (k ≤ end) × (judged true sheet greatest (accepted pixels) 0 (twoByTwo src) ≡ judged true sheet greatest (accepted pixels) k (drop k (twoByTwo src)))
+Inv-loop sheet greatest src pixels start end k₀ k = (k ≤ end) × (judged true sheet greatest (accepted pixels) 0 (twoByTwo src) ≡ judged true sheet greatest (accepted pixels) k (drop k (twoByTwo src)))
 
 abbrev μ-loop : tie.MeasureT-loop
-μ-loop sheet greatest src pixels end k₀ k = end - k
+μ-loop sheet greatest src pixels start end k₀ k = end - k
 
 -- sample k decides, or hands on to the samples behind it
 judged-here :
@@ -38,7 +38,9 @@ judged-here c found e =
     (ap (fault (a .sheet) (a .greatest) k) (sym (c .before .sample .ensures)) ∙ sym (c .look-at .ensures) ∙ ap verdict e)
 
 loop-holds : tie.Need-loop-holds Inv-loop μ-loop
-loop-holds c = (omega arith, refl)
+loop-holds c =
+    let s = c .before in
+    (omega (arith, s .pre .inside, length-two (s .args .src .now)), s .pre .skips (accepted (s .args .pixels)))
 
 sample-requires : tie.Need-sample-requires Inv-loop μ-loop
 sample-requires c κs = omega arith
@@ -52,8 +54,8 @@ enum-told c = search needs
 enum-known-found : tie.Need-enum-known-found Inv-loop μ-loop
 enum-known-found c = search needs
 
-mul-t12 : tie.Need-mul-t12 Inv-loop μ-loop
-mul-t12 c = omega arith
+mul-t13 : tie.Need-mul-t13 Inv-loop μ-loop
+mul-t13 c = omega arith
 
 returns : tie.Need-returns Inv-loop μ-loop
 returns c =
@@ -90,7 +92,7 @@ first-fault-spec =
     look-at-requires
     enum-told
     enum-known-found
-    mul-t12
+    mul-t13
     returns
     add-k
     loop-less

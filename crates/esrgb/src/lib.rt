@@ -32,7 +32,7 @@ pub fn depth_of(n: u32) -> Offer
 }
 
 // The bits of a code.
-pub fn bits_of(depth: Depth) -> u16
+fn bits_of(depth: Depth) -> u16
     ensures { λ r. ⌜ r ≡ bits depth ⌝ }
 {
     match depth {

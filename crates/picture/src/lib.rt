@@ -42,6 +42,7 @@ pub enum Offers {
 
 // ---- samples of a buffer, one or two bytes each
 
+// Sample k.
 fn sample(src: &[u8], wide: bool, k: usize) -> u16
     requires { ⌜ place wide (k + 1) ≤ length (now src) ⌝ }
     ensures { λ r. ⌜ r ≡ getD (samplesOf wide (now (src .entry))) k 0 ⌝ }
@@ -160,6 +161,7 @@ fn put_pixel(dst: &mut [u8], i: usize, p: Three)
     put(dst, true, k + 2, p.c);
 }
 
+// The conversions that need a whole pixel at a time. It goes by value from the bytes read to the bytes written.
 fn fill_pixels(rule: PixelRule, src: &[u8], dst: &mut [u8])
     requires { ⌜ length (now dst) ≡ 6 * length (read true (now src)) ⌝ }
     ensures { λ _. ⌜ now (dst .exit) ≡ write true (map (pixelApplied rule) (read true (now (src .entry)))) ⌝ }
@@ -175,6 +177,7 @@ fn fill_pixels(rule: PixelRule, src: &[u8], dst: &mut [u8])
 
 // ---- Convert
 
+// The number of bits that a conversion names for its source, and for its destination; of sRGB, the other side's.
 fn from_depth(conversion: Conversion) -> u32
     ensures { λ r. ⌜ r ≡ fromDepth conversion ⌝ }
 {
@@ -199,6 +202,7 @@ fn to_depth(conversion: Conversion) -> u32
     }
 }
 
+// Looks at both depths, before anything else.
 fn offers_for(conversion: Conversion) -> Offers
     ensures { λ r. ⌜ Offering conversion r ⌝ }
 {
@@ -238,6 +242,7 @@ fn writes_wide(conversion: Conversion) -> bool
     }
 }
 
+// Does the source hold luma and chroma, so that a chroma of 0 is at fault?
 fn reads_sheet(conversion: Conversion) -> bool
     ensures { λ r. ⌜ r ≡ isSheet (source conversion) ⌝ }
 {
@@ -283,6 +288,7 @@ fn decide(conversion: Conversion, from: Depth, src: &[u8], room: usize) -> Answe
     judge_source(conversion, from, src)
 }
 
+// Each way of changing the depth has a call of its own, and so a loop of its own.
 fn fill_change(change: DepthChange, src: &[u8], dst: &mut [u8])
     requires { ⌜ length (now dst) ≡ 2 * length (samplesOf true (now src)) ⌝ }
     ensures { λ _. ⌜ now (dst .exit) ≡ bytesOf true (map (applied (ruleOf change)) (samplesOf true (now (src .entry)))) ⌝ }
@@ -334,6 +340,7 @@ fn fill(conversion: Conversion, from: Depth, to: Depth, src: &[u8], dst: &mut [u
     }
 }
 
+// A conversion whose depths are offered: decided first, and then written.
 fn run(conversion: Conversion, from: Depth, to: Depth, src: &[u8], dst: &mut [u8]) -> Answer
     requires { ⌜ Named conversion from to ⌝ }
     ensures answer { λ r. ⌜ said r ≡ convertSays conversion (now (src .entry)) (length (now (dst .entry))) ⌝ }

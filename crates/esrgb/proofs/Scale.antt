@@ -27,7 +27,12 @@ scale Ten = record { whole = refl; half = refl; zero-at = refl; some = omega ari
 scale Twelve = record { whole = refl; half = refl; zero-at = refl; some = omega arith; fits = omega arith; half-step = 4; even = refl; least = omega arith; most = omega arith }
 scale Sixteen = record { whole = refl; half = refl; zero-at = refl; some = omega arith; fits = omega arith; half-step = 64; even = refl; least = omega arith; most = omega arith }
 
--- An offered number of bits is that of a depth.
+-- The bits of a depth are offered, and an offered number of bits is that of a depth.
+pub offered-bits : (d : Depth) → offered (bits d) ≡ true
+offered-bits Ten = refl
+offered-bits Twelve = refl
+offered-bits Sixteen = refl
+
 pub scale-of : (n : ℕ) → offered n ≡ true → Scale n
 scale-of n h = elim (ℕ-discrete n 10) [
   | yes e ↦ rw e (scale Ten)

@@ -33,3 +33,22 @@ pub fn two_bytes(v: u16) -> TwoBytes
         high: (v / 256 % 256) as u8,
     }
 }
+
+// The four bytes of a number, the lowest first.
+pub struct FourBytes {
+    pub a: u8,
+    pub b: u8,
+    pub c: u8,
+    pub d: u8,
+}
+
+pub fn four_bytes(v: u32) -> FourBytes
+    ensures { λ r. ⌜ r .a ∷ r .b ∷ r .c ∷ r .d ∷ [] ≡ lowBytes 4 v ⌝ }
+{
+    FourBytes {
+        a: (v % 256) as u8,
+        b: (v / 256 % 256) as u8,
+        c: (v / 256 / 256 % 256) as u8,
+        d: (v / 256 / 256 / 256 % 256) as u8,
+    }
+}

@@ -12,10 +12,12 @@ use lib.ListN.{length, getD}
 use Rattle.refusal.specs.Answers.{Said, accepted, refused, leaves}
 use Rattle.samples.specs.Samples.{pixelSize, twoByTwo}
 use Rattle.samples.specs.Faults.{judged, inOrder}
-use Rattle.samples.proofs.Judging.{and-false, none-above}
+use Rattle.numbers.proofs.Booleans.{and-false}
+use Rattle.samples.proofs.Judging.{none-above}
 use Rattle.esrgb.specs.declared.Depth.{Depth}
 use Rattle.esrgb.specs.declared.Depth.the-variants.{Ten, Twelve, Sixteen}
 use Rattle.esrgb.specs.Depths.{offered, bits, greatest}
+use Rattle.esrgb.proofs.Scale.{offered-bits}
 use Rattle.picture.specs.declared.Conversion.{Conversion}
 use Rattle.picture.specs.declared.Conversion.the-variants.{FromSrgb, ToSrgb, ChangeDepth, ToLumaChroma, FromLumaChroma}
 use Rattle.picture.specs.Forms.{isSheet, wideForm, source, offers}
@@ -23,11 +25,6 @@ use Rattle.picture.specs.Convert.{needed, sourceSays, convertSays, conve
 use Rattle.picture.specs.Rules.{fromDepth, toDepth, Named, Fit}
 
 -- ---- depths
-offered-bits : (d : Depth) → offered (bits d) ≡ true
-offered-bits Ten = refl
-offered-bits Twelve = refl
-offered-bits Sixteen = refl
-
 offers-both : (c : Conversion) → offered (fromDepth c) ≡ true → offered (toDepth c) ≡ true → offers c ≡ true
 offers-both (FromSrgb n) f t = t
 offers-both (ToSrgb n) f t = rw f

@@ -1,7 +1,7 @@
 -- Samples judged one after another: what one more sample changes, and when none is at fault.
 -- Assumes nothing.
 use Prim.Native.Nat.{ℕ, zero, suc, _+_, _*_, _/_, _%_, _≤_, _<_}
-use mathlib.Core.Path.{_≡_, refl, sym, ap, _∙_}
+use mathlib.Core.Path.{_≡_, refl, ap, _∙_}
 use mathlib.Core.Bool.{Bool, true, false, false≢true, not, _&&_, _||_}
 use mathlib.Core.List.{List, [], _∷_}
 use native.Mathlib.Omega.{arith}
@@ -10,6 +10,7 @@ use borrow.Author.Tests.{eq-eqb, ne-eqb, le-ltb, ltb-false, eqb-false, not-true}
 use lib.Dec.{ltb, eqb}
 use lib.ListN.{length, getD, drop}
 use lib.Seq.{drop-cons}
+use Rattle.numbers.proofs.Booleans.{or-false, and-true, and-false}
 use Rattle.refusal.specs.Answers.{Said}
 use Rattle.samples.specs.Samples.{place, pixelSize, twoByTwo, samplesOf, Pixel, pixelsOf, read}
 use Rattle.samples.specs.Faults.{sound, fault, decides, judged, leastOf, allWithin, atFault, SoundTo}
@@ -34,22 +35,6 @@ pub one-more : (out below above rest : Bool) → not out && (not (below || above
 one-more true b a rest = refl
 one-more false true a rest = refl
 one-more false false a rest = refl
-
-pub and-right : (a : Bool) → a && true ≡ a
-and-right true = refl
-and-right false = refl
-
-or-false : (a b : Bool) → a || b ≡ false → (a ≡ false) × (b ≡ false)
-or-false true b h = absurd (false≢true (sym h))
-or-false false b h = (refl, h)
-
-and-true : (a b : Bool) → a && b ≡ true → (a ≡ true) × (b ≡ true)
-and-true true b h = (refl, h)
-and-true false b h = absurd (false≢true h)
-
-pub and-false : (a : Bool) → a && false ≡ false
-and-false true = refl
-and-false false = refl
 
 -- A sample that is no chroma of 0, wherever it stands.
 sound-sample : (sheet : Bool) (greatest k x : ℕ) → x ≤ greatest → (sheet ≡ true → 1 ≤ x) → fault sheet greatest k x ≡ sound

@@ -6,7 +6,8 @@ use native.Mathlib.Omega.{arith}
 use lib.Dec.{ltb}
 use lib.ListN.{getD, drop, drop-of-length-le}
 use Rattle.samples.proofs.Reading.{length-two}
-use Rattle.samples.proofs.Judging.{within-at, one-more, and-right}
+use Rattle.samples.proofs.Judging.{within-at, one-more}
+use Rattle.numbers.proofs.Booleans.{and-right}
 use Rattle.samples.specs.Samples.{twoByTwo}
 use Rattle.samples.specs.Faults.{allWithin}
 use Rattle.samples.proofs.all_within.Statement.{statement}

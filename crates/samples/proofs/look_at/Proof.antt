@@ -1,4 +1,4 @@
-use Rattle.samples.proofs.Judging.{and-false}
+use Rattle.numbers.proofs.Booleans.{and-false}
 use borrow.Author.Tests.{lt-ltb, le-ltb, ne-eqb}
 use Rattle.samples.specs.Faults.{fault}
 use Rattle.samples.proofs.look_at.Statement.{statement}

@@ -1,0 +1,95 @@
+// The frames of a spool one after another: document 01's walker. It promises that each step gives
+// what finding the frame gives, and document 01's rule for the number of the next one; it asks
+// nothing of a caller.
+use spool::Found;
+use spool::find;
+use spool::pixels;
+ghost use mathlib.Core.Path.{_≡_};
+ghost use Rattle.spool.specs.Find.{findSaid, findSays};
+ghost use Rattle.frames.specs.Walk.{nextNumber, started, IsStep};
+
+// What is found at a number, and the number of the frame to look for next.
+pub struct Visit {
+    pub found: Found,
+    pub next: usize,
+}
+
+// One step from a number: a file that does not open, and a number past its frames, are stayed at.
+fn visit_at(file: &[u8], number: usize) -> Visit
+    ensures { λ r. ⌜ (findSaid (r .found) ≡ findSays (now (file .entry)) number) × (r .next ≡ nextNumber (now (file .entry)) number) ⌝ }
+{
+    let found = find(file, number);
+    match found {
+        Found::Frame(_) => Visit {
+            found,
+            next: number + 1,
+        },
+        Found::Refused(why) => {
+            if refusal::number(why) <= 5 {
+                return Visit {
+                    found,
+                    next: number,
+                };
+            }
+            Visit {
+                found,
+                next: number + 1,
+            }
+        }
+    }
+}
+
+// The frames of a spool, one after another: document 01's walker. It keeps the lent file and the
+// number of the next frame.
+pub struct Frames<'a> {
+    pub file: &'a [u8],
+    pub next: usize,
+}
+
+// A frame as a step gives it: its pixels in the lent file, and what was found.
+pub struct FoundFrame<'a> {
+    pub pixels: &'a [u8],
+    pub found: Found,
+}
+
+// What a step gives: the frame, and the frames that are left.
+pub struct Stepped<'a> {
+    pub frame: FoundFrame<'a>,
+    pub rest: Frames<'a>,
+}
+
+// The frames of a file, from the first on.
+pub fn frames_of<'a>(file: &'a [u8]) -> Frames<'a>
+    ensures { λ r. ⌜ r ≡ started (file .entry) ⌝ }
+{
+    Frames { file, next: 0 }
+}
+
+// One step: the next frame, and the frames after it.
+pub fn step<'a>(frames: Frames<'a>) -> Stepped<'a>
+    ensures { λ r. ⌜ IsStep (frames .entry) r ⌝ }
+{
+    let visit = visit_at(frames.file, frames.next);
+    let pixels = pixels(frames.file, frames.next);
+    Stepped {
+        frame: FoundFrame {
+            pixels,
+            found: visit.found,
+        },
+        rest: Frames {
+            file: frames.file,
+            next: visit.next,
+        },
+    }
+}
+
+// One step from a number, for callers that have the file and the number apart.
+pub fn step_from(file: &[u8], number: usize) -> Visit
+    ensures { λ r. ⌜ (findSaid (r .found) ≡ findSays (now (file .entry)) number) × (r .next ≡ nextNumber (now (file .entry)) number) ⌝ }
+{
+    let stepped = step(Frames { file, next: number });
+    Visit {
+        found: stepped.frame.found,
+        next: stepped.rest.next,
+    }
+}

@@ -1,0 +1,79 @@
+-- What storing a header, a record and one record's visit leave.
+-- Assumes nothing.
+use Prim.Native.Nat.{ℕ, _+_, _-_, _≤_, _<_}
+use native.Mathlib.Nat.{le-of-eq, mod-eq-of-lt}
+use mathlib.Core.Path.{_≡_, refl, sym, ap, _∙_}
+use mathlib.Core.Bool.{true, false}
+use mathlib.Core.List.{List, [], _∷_, _++_, append-nil}
+use lib.ListN.{length, take, drop, length-drop}
+use lib.Seq.{take-all, drop-drop, drop-length}
+use borrow.Author.Tests.{lt-ltb, le-ltb, le-leb, lt-leb}
+use Rattle.numbers.specs.Bytes.{lowBytes}
+use Rattle.refusal.specs.declared.Refusal.{Refusal}
+use Rattle.refusal.specs.declared.Answer.the-variants.{Done, Refused, RefusedAt}
+use Rattle.refusal.specs.Refusals.{numberOf}
+use Rattle.spool.specs.declared.FrameRecord.{FrameRecord}
+use Rattle.spool.specs.Fields.{bytesOf}
+use Rattle.spool.specs.Layout.{recordWidths, recordNumbers, pixelBytes}
+use Rattle.spool.specs.Find.{recordFault}
+use Rattle.spool.proofs.Tests.{numbered}
+use Rattle.layout.specs.declared.Progress.{Progress}
+use Rattle.layout.specs.LayOut.{withOffset}
+use Rattle.layout.specs.Pass.{stateOf, grown, recordPlace, written, visited}
+
+-- One list after another, each with what it equals.
+pub joined : {a b c d : List ℕ} → a ≡ b → c ≡ d → a ++ c ≡ b ++ d
+joined {a} {b} {c} {d} p q = ap (λ (x : List ℕ). x ++ c) p ∙ ap (λ (x : List ℕ). b ++ x) q
+
+-- A byte is its own low byte.
+pub one-byte : (v : ℕ) → v < 256 → v ∷ [] ≡ lowBytes 1 v
+one-byte v h = rw (mod-eq-of-lt h)
+
+-- A part from `at` to the end, of which the first bytes were written anew.
+pub put-there : (d b part : List ℕ) (at n : ℕ) → at ≤ length d → part ≡ b ++ drop n (take (length d - at) (drop at d))
+    → take at d ++ (part ++ drop (length d - at) (drop at d)) ≡ take at d ++ (b ++ drop (at + n) d)
+put-there d b part at n h e =
+    let rest : drop (length d - at) (drop at d) ≡ [] = ap (λ (k : ℕ). drop k (drop at d)) (sym (length-drop at d)) ∙ drop-length (drop at d) in
+    ap (λ (x : List ℕ). take at d ++ x)
+    (rw rest (append-nil part)
+    ∙ e
+    ∙ ap (λ (x : List ℕ). b ++ x)
+    (ap (drop n) (take-all (length d - at) (drop at d) (le-of-eq (length-drop at d))) ∙ drop-drop n at d))
+
+module _ (place end : ℕ) (r : FrameRecord) (d : List ℕ) where
+  pub not-writing : d ≡ written false place end r d
+  unfolding written
+  not-writing = refl
+
+  pub past-limit : 255 ≤ place → d ≡ written true place end r d
+  unfolding written
+  past-limit h = simp (le-ltb _ _ h)
+
+  pub past-length : place < 255 → 4294967295 < end → d ≡ written true place end r d
+  unfolding written
+  past-length h l = simp (lt-ltb _ _ h, lt-leb _ _ l)
+
+  pub no-room : place < 255 → end ≤ 4294967295 → length d < recordPlace place + 16 → d ≡ written true place end r d
+  unfolding written
+  no-room h l s = simp (lt-ltb _ _ h, le-leb _ _ l, lt-leb _ _ s)
+
+  pub in-place : place < 255 → end ≤ 4294967295 → recordPlace place + 16 ≤ length d
+      → written true place end r d ≡ take (recordPlace place) d ++ (bytesOf recordWidths (recordNumbers (withOffset end r)) ++ drop (recordPlace place + 16) d)
+  unfolding written
+  in-place h l s = simp (lt-ltb _ _ h, le-leb _ _ l, le-leb _ _ s)
+
+-- One record's visit, by what the pass says so far.
+module _ (p : Progress) (d : List ℕ) (place : ℕ) (r : FrameRecord) where
+  pub visit-faulty : {end : ℕ} (why : Refusal) → p .answer ≡ Done end → numberOf why ≡ recordFault r
+      → stateOf (record { writing = p .writing; answer = RefusedAt why place }) d ≡ visited (stateOf p d) place r
+  visit-faulty {end} why e f = rw (e, ← f, numbered why)
+
+  pub visit-sound : {end next : ℕ} {d′ : List ℕ} → p .answer ≡ Done end → 0 ≡ recordFault r → next ≡ grown end (pixelBytes r) → d′ ≡ written (p .writing) place end r d
+      → stateOf (record { writing = p .writing; answer = Done next }) d′ ≡ visited (stateOf p d) place r
+  visit-sound e f g b = rw (e, ← f, g, b)
+
+  pub visit-refused : {why : Refusal} → p .answer ≡ Refused why → stateOf p d ≡ visited (stateOf p d) place r
+  visit-refused e = rw e
+
+  pub visit-refused-at : {why : Refusal} {at : ℕ} → p .answer ≡ RefusedAt why at → stateOf p d ≡ visited (stateOf p d) place r
+  visit-refused-at e = rw e

@@ -1,0 +1,66 @@
+-- Lay out a spool (document 01, "Turned away").
+-- Assumes nothing.
+use Prim.Native.Nat.{ℕ, _+_, _*_}
+use mathlib.Core.Bool.{cond}
+use mathlib.Core.List.{List, [], _∷_, _++_}
+use lib.ListN.{length, drop}
+use lib.Dec.{eqb, ltb}
+use Rattle.refusal.specs.Answers.{Said, accepted, refused, refusedAt}
+use Rattle.spool.specs.declared.FrameRecord.{FrameRecord}
+use Rattle.spool.specs.Fields.{bytesOf}
+use Rattle.spool.specs.Layout.{headerWidths, recordWidths, headerSize, recordSize, recordNumbers, frameLimit, pixelBytes}
+use Rattle.spool.specs.Find.{recordFault}
+
+-- "14 total length above 4,294,967,295": the greatest length that a header can say.
+abbrev pub lengthLimit : ℕ
+lengthLimit = 4294967295
+
+-- "Table at 12", and "pixels .. from the table's end".
+abbrev pub pixelsFrom : ℕ → ℕ
+pixelsFrom count = headerSize + recordSize * count
+
+abbrev pub allPixels : List FrameRecord → ℕ
+allPixels [] = 0
+allPixels (r ∷ rs) = pixelBytes r + allPixels rs
+
+abbrev pub totalLength : List FrameRecord → ℕ
+totalLength rs = pixelsFrom (length rs) + allPixels rs
+
+-- "Then 6 and 7 record by record, the first record at fault, with its place in the list": of records the first of which
+-- has the given place. Where none is at fault, `sound` is said.
+unfoldable pub judged : Said → ℕ → List FrameRecord → Said
+judged sound place [] = sound
+judged sound place (r ∷ rs) =
+    cond (eqb (recordFault r) 0) (judged sound (place + 1) rs) (refusedAt (recordFault r) place)
+
+-- "3; then 6 and 7 ..; 14 total length above 4,294,967,295; 11. .. Accepted, it gives the total length."
+unfoldable pub layoutSays : List FrameRecord → ℕ → Said
+layoutSays rs room =
+    cond (ltb frameLimit (length rs)) (refused 3)
+    (judged
+    (cond (ltb lengthLimit (totalLength rs)) (refused 14)
+    (cond (eqb room (totalLength rs)) (accepted (totalLength rs)) (refused 11)))
+    0 rs)
+
+-- "Pixels of the frames placed one after another": the records with their pixel offsets, the first at the given one.
+abbrev pub withOffset : ℕ → FrameRecord → FrameRecord
+withOffset at r =
+    record { offset = at; width = r .width; height = r .height; kind = r .kind; bits = r .bits; copies = r .copies; order = r .order }
+
+abbrev pub placed : ℕ → List FrameRecord → List FrameRecord
+placed at [] = []
+placed at (r ∷ rs) = withOffset at r ∷ placed (at + pixelBytes r) rs
+
+abbrev pub tableBytes : List FrameRecord → List ℕ
+tableBytes [] = []
+tableBytes (r ∷ rs) = bytesOf recordWidths (recordNumbers r) ++ tableBytes rs
+
+-- The header of a spool with so many frames, of this shop and total length.
+abbrev pub headerBytes : ℕ → ℕ → ℕ → List ℕ
+headerBytes count shop total = bytesOf headerWidths (count ∷ shop ∷ headerSize ∷ total ∷ [])
+
+-- "It writes header (table at 12) and table, .. and leaves the pixel bytes as found."
+unfoldable pub layoutBytes : List FrameRecord → ℕ → List ℕ → List ℕ
+layoutBytes rs shop found =
+    headerBytes (length rs) shop (totalLength rs)
+    ++ (tableBytes (placed (pixelsFrom (length rs)) rs) ++ drop (pixelsFrom (length rs)) found)

@@ -1,0 +1,3 @@
+pub mod LayOut
+pub mod Pass
+pub mod RoundTrip

@@ -1,0 +1,71 @@
+-- Laws of text: one text after another, and the digits of a number.
+-- Assumes nothing.
+use Prim.Native.Nat.{ℕ, zero, suc, _+_, _/_, _%_, _≤_, _<_, zero-le}
+use native.Mathlib.Nat.{mod-eq-of-lt}
+use native.Mathlib.Numerals.{add-one}
+use native.Mathlib.Omega.{arith}
+use mathlib.Core.Path.{_≡_, refl, sym, ap, _∙_}
+use mathlib.Core.Bool.{Bool, true, false}
+use mathlib.Core.List.{List, [], _∷_, _++_, append-assoc}
+use lib.Dec.{ltb}
+use lib.ListN.{length, drop, getD, drop-of-length-le, length-set}
+use lib.Seq.{drop-cons}
+use borrow.Author.Tests.{lt-ltb, le-ltb, ltb-true, ltb-false}
+use Rattle.listing.specs.Text.{digits, decimal, Buffer, put, written}
+
+pub written-append : (b : Buffer) (xs ys : List ℕ) → written b (xs ++ ys) ≡ written (written b xs) ys
+unfolding written
+written-append b [] ys = refl
+written-append b (x ∷ xs) ys = written-append (put b x) xs ys
+
+-- A text written after another, and after a field.
+pub text-then : (b : Buffer) (xs ys : List ℕ) {b′ z : Buffer} → b′ ≡ written b xs → z ≡ written b′ ys → z ≡ written b (xs ++ ys)
+text-then b xs ys p q = q ∙ ap (λ (x : Buffer). written x ys) p ∙ sym (written-append b xs ys)
+
+pub field-then : (b : Buffer) (n e : ℕ) (rest : List ℕ) {b′ z : Buffer} → b′ ≡ written b (decimal n ++ (e ∷ [])) → z ≡ written b′ rest → z ≡ written b (decimal n ++ (e ∷ rest))
+field-then b n e rest p q = text-then b (decimal n ++ (e ∷ [])) rest p q ∙ ap (written b) (append-assoc (decimal n) (e ∷ []) rest)
+
+-- A text ends within the buffer.
+put-within : (b : Buffer) (x : ℕ) → b .at ≤ length (b .bytes) → put b x .at ≤ length (put b x .bytes)
+put-within b x h = by-room (ltb (b .at) (length (b .bytes))) refl where
+  by-room : (t : Bool) → ltb (b .at) (length (b .bytes)) ≡ t → put b x .at ≤ length (put b x .bytes)
+  by-room true e = let room = ltb-true (b .at) (length (b .bytes)) e in rw (e, length-set) (omega arith)
+  by-room false e = rw e h
+
+written-within : (xs : List ℕ) (b : Buffer) → b .at ≤ length (b .bytes) → written b xs .at ≤ length (written b xs .bytes)
+unfolding written
+written-within [] b h = h
+written-within (x ∷ xs) b h = written-within xs (put b x) (put-within b x h)
+
+pub ends : (d xs : List ℕ) (z : Buffer) → z ≡ written (record { bytes = d; at = 0 }) xs → (z ≡ written (record { bytes = d; at = 0 }) xs) × (z .at ≤ length (z .bytes))
+ends d xs z e = (e, rw e (written-within xs (record { bytes = d; at = 0 }) zero-le))
+
+-- A text of which i bytes are written.
+module _ (text : List ℕ) (i : ℕ) (b : Buffer) where
+  pub one-more : i < length text → written b (drop i text) ≡ written (put b (getD text i 0)) (drop (i + 1) text)
+  unfolding written
+  one-more l = ap (written b) (drop-cons text i 0 l) ∙ ap (λ (k : ℕ). written (put b (getD text i 0)) (drop k text)) (sym (add-one i))
+
+  pub none-left : length text ≤ i → written b (drop i text) ≡ b
+  unfolding written
+  none-left l = ap (written b) (drop-of-length-le text l)
+
+-- The bound on the digits does not matter, where it is above the number.
+same-digits : (f g n : ℕ) → n < f → n < g → digits f n ≡ digits g n
+unfolding digits
+same-digits zero g n p q = absurd (omega arith)
+same-digits (suc f) zero n p q = absurd (omega arith)
+same-digits (suc f) (suc g) n p q = by-test (ltb n 10) refl (same-digits f g (n / 10)) where
+  by-test : (t : Bool) → ltb n 10 ≡ t → (n / 10 < f → n / 10 < g → digits f (n / 10) ≡ digits g (n / 10)) → digits (suc f) n ≡ digits (suc g) n
+  by-test true e rest = rw e
+  by-test false e rest =
+      let large = ltb-false n 10 e in
+      rw e (ap (λ (ds : List ℕ). ds ++ ((48 + n % 10) ∷ [])) (rest (omega arith) (omega arith)))
+
+pub one-digit : (n : ℕ) → n < 10 → decimal n ≡ (48 + n % 10) ∷ []
+unfolding decimal digits
+one-digit n h = rw (lt-ltb _ _ h, mod-eq-of-lt h)
+
+pub more-digits : (n : ℕ) → 10 ≤ n → decimal n ≡ decimal (n / 10) ++ ((48 + n % 10) ∷ [])
+unfolding decimal digits
+more-digits n h = rw (le-ltb _ _ h) (ap (λ (ds : List ℕ). ds ++ ((48 + n % 10) ∷ [])) (same-digits n (suc (n / 10)) (n / 10) (omega arith) (omega arith)))

@@ -1,0 +1,138 @@
+// The listing of a spool as text, written into a lent buffer. It promises every byte of document
+// 01's listing for any file; it asks nothing of a caller. A buffer that is too small gets as much of
+// the text as it has room for.
+use frames::step_from;
+use refusal::Refusal;
+use refusal::number;
+use spool::Found;
+use spool::FrameRecord;
+use spool::Opened;
+use spool::open;
+ghost use mathlib.Core.Path.{_≡_};
+ghost use mathlib.Core.List.{[], _∷_, _++_};
+ghost use Prim.Native.Nat.{_+_, _≤_};
+ghost use lib.ListN.{length};
+ghost use Rattle.spool.specs.Layout.{headerIn};
+ghost use Rattle.spool.specs.Open.{openFault};
+ghost use Rattle.spool.specs.Find.{finds, findSaid};
+ghost use Rattle.listing.specs.Text.{decimal, put, written};
+ghost use Rattle.listing.specs.Listing.{refusedWord, fields, line, lines, listing};
+
+// The longest file that is listed.
+pub const INPUT_LIMIT: usize = 65536;
+
+// One byte more, where the buffer has room.
+fn put_byte(out: &mut [u8], at: usize, byte: u8) -> usize
+    ensures { λ r. ⌜ record { bytes = now (out .exit); at = r } ≡ put (record { bytes = now (out .entry); at = at }) byte ⌝ }
+{
+    if at < out.len() {
+        out[at] = byte;
+        return at + 1;
+    }
+    at
+}
+
+// A text more.
+fn put_text(out: &mut [u8], at: usize, text: &[u8]) -> usize
+    ensures { λ r. ⌜ record { bytes = now (out .exit); at = r } ≡ written (record { bytes = now (out .entry); at = at }) (now (text .entry)) ⌝ }
+{
+    let mut next = at;
+    let mut i: usize = 0;
+    while i < text.len() {
+        next = put_byte(out, next, text[i]);
+        i = i + 1;
+    }
+    next
+}
+
+// A number more, in decimal.
+fn put_number(out: &mut [u8], at: usize, n: usize) -> usize
+    ensures { λ r. ⌜ record { bytes = now (out .exit); at = r } ≡ written (record { bytes = now (out .entry); at = at }) (decimal n) ⌝ }
+{
+    let last = (48 + n % 10) as u8;
+    if n < 10 {
+        return put_byte(out, at, last);
+    }
+    let next = put_number(out, at, n / 10);
+    put_byte(out, next, last)
+}
+
+// A field of a line: a number and the byte behind it.
+fn put_field(out: &mut [u8], at: usize, n: usize, end: u8) -> usize
+    ensures { λ r. ⌜ record { bytes = now (out .exit); at = r } ≡ written (record { bytes = now (out .entry); at = at }) (decimal n ++ (end ∷ [])) ⌝ }
+{
+    let next = put_number(out, at, n);
+    put_byte(out, next, end)
+}
+
+// The line of a frame that is found.
+fn put_frame(out: &mut [u8], at: usize, number: usize, frame: FrameRecord) -> usize
+    ensures { λ r. ⌜ record { bytes = now (out .exit); at = r } ≡ written (record { bytes = now (out .entry); at = at }) (line number (finds frame)) ⌝ }
+{
+    let order = put_field(out, at, number, b' ');
+    let kind = put_field(out, order, frame.order as usize, b' ');
+    let bits = put_field(out, kind, frame.kind as usize, b' ');
+    let width = put_field(out, bits, frame.bits as usize, b' ');
+    let height = put_field(out, width, frame.width as usize, b' ');
+    let copies = put_field(out, height, frame.height as usize, b' ');
+    let offset = put_field(out, copies, frame.copies as usize, b' ');
+    put_field(out, offset, frame.offset as usize, b'\n')
+}
+
+// The word `refused`, a refusal's number and the end of the line.
+fn put_refusal(out: &mut [u8], at: usize, refusal: u8) -> usize
+    ensures { λ r. ⌜ record { bytes = now (out .exit); at = r } ≡ written (record { bytes = now (out .entry); at = at }) (refusedWord ++ fields (refusal ∷ [])) ⌝ }
+{
+    let next = put_text(out, at, b"refused ");
+    put_field(out, next, refusal as usize, b'\n')
+}
+
+// The line of a frame, found or refused.
+fn put_line(out: &mut [u8], at: usize, frame: usize, found: Found) -> usize
+    ensures { λ r. ⌜ record { bytes = now (out .exit); at = r } ≡ written (record { bytes = now (out .entry); at = at }) (line frame (findSaid found)) ⌝ }
+{
+    match found {
+        Found::Frame(record) => put_frame(out, at, frame, record),
+        Found::Refused(why) => {
+            let next = put_field(out, at, frame, b' ');
+            put_refusal(out, next, number(why))
+        }
+    }
+}
+
+// The lines of the frames of an open spool, one step of the walker after another.
+fn put_lines(file: &[u8], count: usize, out: &mut [u8], at: usize) -> usize
+    requires { ⌜ (openFault (now file) ≡ 0) × (count ≡ headerIn (now file) .count) ⌝ }
+    ensures { λ r. ⌜ record { bytes = now (out .exit); at = r } ≡ written (record { bytes = now (out .entry); at = at }) (lines (now (file .entry)) count 0) ⌝ }
+{
+    let mut next = at;
+    let mut frame: usize = 0;
+    while frame < count {
+        let visit = step_from(file, frame);
+        let found = visit.found;
+        next = put_line(out, next, frame, found);
+        frame = visit.next;
+    }
+    next
+}
+
+// Writes the listing of a file into the buffer, from its start, and gives the length of the text.
+pub fn write_listing(file: &[u8], out: &mut [u8]) -> usize
+    ensures { λ r. ⌜ record { bytes = now (out .exit); at = r } ≡ written (record { bytes = now (out .entry); at = 0 }) (listing (now (file .entry))) ⌝ }
+    ensures within { λ r. ⌜ r ≤ length (now (out .exit)) ⌝ }
+{
+    if INPUT_LIMIT < file.len() {
+        return put_refusal(out, 0, number(Refusal::InputTooLong));
+    }
+    match open(file) {
+        Opened::Refused(why) => put_refusal(out, 0, number(why)),
+        Opened::Spool(contents) => {
+            let at = put_text(
+                out,
+                0,
+                b"frame order kind bits width height copies offset\n",
+            );
+            put_lines(file, contents.count as usize, out, at)
+        }
+    }
+}

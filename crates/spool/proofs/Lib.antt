@@ -1,0 +1,5 @@
+pub mod Fields
+pub mod Sizes
+pub mod Tests
+pub mod OpenFaults
+pub mod FindFaults

@@ -1,0 +1,22 @@
+-- How large the pixels of a frame can be.
+-- Assumes nothing.
+use Prim.Native.Nat.{ℕ, _*_, _^_, _≤_, _<_}
+use native.Mathlib.Nat.{mul-le-mul}
+use native.Mathlib.Omega.{arith}
+use mathlib.Core.Bool.{Bool, true, false}
+use Rattle.samples.specs.Samples.{isWide, pixelSize}
+use Rattle.spool.specs.declared.FrameRecord.{FrameRecord}
+use Rattle.spool.specs.Layout.{pixelBytes}
+
+pub area : {w h : ℕ} → w < 2 ^ 16 → h < 2 ^ 16 → w * h ≤ 65535 * 65535
+area {w} {h} p q =
+    let wide : w ≤ 65535 = omega arith in
+    let high : h ≤ 65535 = omega arith in
+    mul-le-mul wide high
+
+pixel-small : (wide : Bool) → pixelSize wide ≤ 6
+pixel-small true = omega arith
+pixel-small false = omega arith
+
+pub pixels-small : (r : FrameRecord) → r .width < 2 ^ 16 → r .height < 2 ^ 16 → pixelBytes r ≤ 65535 * 65535 * 6
+pixels-small r p q = mul-le-mul (area p q) (pixel-small (isWide (r .bits)))

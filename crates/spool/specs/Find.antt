@@ -1,0 +1,83 @@
+-- Find a frame (document 01, "Turned away").
+-- Assumes nothing.
+use Prim.Native.Nat.{ℕ, _+_, _*_}
+use mathlib.Core.Bool.{Bool, cond, _||_}
+use mathlib.Core.List.{List}
+use mathlib.Core.Path.{_≡_}
+use lib.ListN.{length, take, drop}
+use lib.Dec.{eqb, ltb}
+use denote.Ref.{RefT, now, ptr}
+use Rattle.refusal.specs.Refusals.{numberOf}
+use Rattle.spool.specs.declared.FrameRecord.{FrameRecord}
+use Rattle.spool.specs.declared.Checked.{Checked}
+use Rattle.spool.specs.declared.Checked.the-variants.{Sound, Faulty}
+use Rattle.spool.specs.declared.Found.{Found}
+use Rattle.spool.specs.declared.Found.the-variants.{Frame, Refused}
+use Rattle.spool.specs.Layout.{headerSize, recordSize, headerIn, recordIn, isPair, badSide, pixelBytes}
+use Rattle.spool.specs.Open.{openFault}
+
+-- The refusal of a record, 0 for none: "6 kind and bits not a pair above; 7 width or height 0 or above 8,192".
+unfoldable pub recordFault : FrameRecord → ℕ
+recordFault r = cond (isPair (r .kind) (r .bits)) (cond (badSide (r .width) || badSide (r .height)) 7 0) 6
+
+abbrev pub checked : Checked → ℕ
+checked Sound = 0
+checked (Faulty r) = numberOf r
+
+-- The record of frame k. "Frames count from 0."
+unfoldable pub recordAt : List ℕ → ℕ → FrameRecord
+recordAt file k = recordIn (drop (headerIn file .table + recordSize * k) file)
+
+-- Where the pixels of a record end.
+abbrev pub pixelEnd : FrameRecord → ℕ
+pixelEnd r = r .offset + pixelBytes r
+
+-- "8 pixel offset below 12 or pixel end past the file."
+unfoldable pub pixelsOutside : List ℕ → FrameRecord → Bool
+pixelsOutside file r = ltb (r .offset) headerSize || ltb (length file) (pixelEnd r)
+
+-- The first of two faults.
+abbrev pub orElse : ℕ → ℕ → ℕ
+orElse first second = cond (eqb first 0) second first
+
+-- "Open's refusals first; 5 frame number not below the count; 6 ..; 7 ..; 8 .."
+unfoldable pub findFault : List ℕ → ℕ → ℕ
+findFault file k =
+    orElse (openFault file)
+    (cond (ltb k (headerIn file .count))
+    (orElse (recordFault (recordAt file k)) (cond (pixelsOutside file (recordAt file k)) 8 0))
+    5)
+
+-- Accepted, the record; refused, the number, "and the record is all zeros".
+pub data FindSaid : Type 0 where
+  finds : FrameRecord → FindSaid
+  refused : ℕ → FrameRecord → FindSaid
+
+abbrev pub noRecord : FrameRecord
+noRecord = record { offset = 0; width = 0; height = 0; kind = 0; bits = 0; copies = 0; order = 0 }
+
+abbrev pub findSaid : Found → FindSaid
+findSaid (Frame r) = finds r
+findSaid (Refused r) = refused (numberOf r) noRecord
+
+abbrev pub findSays : List ℕ → ℕ → FindSaid
+findSays file k = cond (eqb (findFault file k) 0) (finds (recordAt file k)) (refused (findFault file k) noRecord)
+
+-- "The frame's own stretch of the lent file": where its pixels start and how many bytes they are; "refused, the stretch is
+-- empty, at the file's start".
+abbrev pub pixelsStart : FindSaid → ℕ
+pixelsStart (finds r) = r .offset
+pixelsStart (refused n r) = 0
+
+abbrev pub pixelsLength : FindSaid → ℕ
+pixelsLength (finds r) = pixelBytes r
+pixelsLength (refused n r) = 0
+
+abbrev pub pixelsOf : List ℕ → ℕ → List ℕ
+pixelsOf file k = take (pixelsLength (findSays file k)) (drop (pixelsStart (findSays file k)) file)
+
+-- A part of the file that is frame k's pixels: its bytes, and where it lies in the file's own memory.
+pub record IsPixels (file : RefT (List ℕ)) (k : ℕ) (part : RefT (List ℕ)) : Type 0 where
+  pub bytes : now part ≡ pixelsOf (now file) k
+  pub block : ptr part .0 ≡ ptr file .0
+  pub place : ptr part .1 ≡ ptr file .1 + pixelsStart (findSays (now file) k)

@@ -1,0 +1,40 @@
+-- Open a spool (document 01, "Turned away").
+-- Assumes nothing.
+use Prim.Native.Nat.{ℕ, _+_, _*_}
+use mathlib.Core.Bool.{cond, not, _||_}
+use mathlib.Core.List.{List}
+use lib.ListN.{length}
+use lib.Dec.{eqb, ltb}
+use Rattle.refusal.specs.Refusals.{numberOf}
+use Rattle.spool.specs.declared.Opened.{Opened}
+use Rattle.spool.specs.declared.Opened.the-variants.{Spool, Refused}
+use Rattle.spool.specs.Layout.{headerSize, recordSize, headerIn, frameLimit}
+
+-- "Accepted, the frame count, the shop and the table offset"; "refused, it gives the number only".
+pub data OpenSaid : Type 0 where
+  opens : ℕ → ℕ → ℕ → OpenSaid
+  refused : ℕ → OpenSaid
+
+abbrev pub openSaid : Opened → OpenSaid
+openSaid (Spool s) = opens (s .count) (s .shop) (s .table)
+openSaid (Refused r) = refused (numberOf r)
+
+-- Where the record table ends.
+abbrev pub tableEnd : List ℕ → ℕ
+tableEnd file = headerIn file .table + recordSize * headerIn file .count
+
+-- "1 shorter than 12 bytes; 2 the length in the header isn't the file's; 3 count above 255 (0 is allowed); 4 table offset
+-- below 12, or table end past the file"; 0 where there is none of these.
+unfoldable pub openFault : List ℕ → ℕ
+openFault file =
+    cond (ltb (length file) headerSize) 1
+    (cond (not (eqb (headerIn file .length) (length file))) 2
+    (cond (ltb frameLimit (headerIn file .count)) 3
+    (cond (ltb (headerIn file .table) headerSize || ltb (length file) (tableEnd file)) 4
+    0)))
+
+abbrev pub openSays : List ℕ → OpenSaid
+openSays file =
+    cond (eqb (openFault file) 0)
+    (opens (headerIn file .count) (headerIn file .shop) (headerIn file .table))
+    (refused (openFault file))

@@ -1,13 +1,13 @@
 -- Numbers written as bytes and read back.
 -- Assumes nothing.
-use Prim.Native.Nat.{ℕ, zero, suc, _+_, _*_, _/_, _%_, _^_, _<_}
-use native.Mathlib.Nat.{mod-add-div, div-lt-iff-lt-mul, pow-suc}
+use Prim.Native.Nat.{ℕ, zero, suc, _+_, _*_, _/_, _<_}
 use native.Mathlib.Omega.{arith}
 use mathlib.Core.Path.{_≡_, refl, ap, ap₂, _∙_}
 use mathlib.Core.List.{List, [], _∷_, _++_, append-assoc}
 use lib.ListN.{length, take, drop, getD}
 use lib.Seq.{take-at, drop-at, drop-append-add}
 use Rattle.numbers.specs.Bytes.{littleEndian, lowBytes}
+use Rattle.numbers.proofs.Bytes.{held}
 use Rattle.spool.specs.declared.FrameRecord.{FrameRecord}
 use Rattle.spool.specs.Fields.{numbersIn, bytesOf}
 use Rattle.spool.specs.Layout.{recordWidths, recordNumbers, recordFrom, recordIn}
@@ -19,12 +19,6 @@ low-length : (w v : ℕ) → length (lowBytes w v) ≡ w
 low-length zero v = refl
 low-length (suc w) v = ap suc (low-length w (v / 256))
 
-read-low : (w v : ℕ) → v < 256 ^ w → littleEndian (lowBytes w v) ≡ v
-read-low zero v h = let small : v < 1 = h in omega arith
-read-low (suc w) v h =
-    ap (λ (n : ℕ). v % 256 + 256 * n) (read-low w (v / 256) (div-lt-iff-lt-mul (omega arith) .1 (rw (pow-suc 256 w) at h)))
-    ∙ mod-add-div v 256
-
 pub read-back : (ws ns rest : List ℕ) → Fit ws ns → numbersIn ws (bytesOf ws ns ++ rest) ≡ ns
 read-back [] [] rest h = refl
 read-back [] (n ∷ ns) rest h = absurd h
@@ -33,7 +27,7 @@ read-back (w ∷ ws) (n ∷ ns) rest h =
     let e = append-assoc (lowBytes w n) (bytesOf ws ns) rest in
     let long = low-length w n in
     ap₂ (λ (x : ℕ) (xs : List ℕ). x ∷ xs)
-    (ap (λ (b : List ℕ). littleEndian (take w b)) e ∙ ap littleEndian (take-at (lowBytes w n) (bytesOf ws ns ++ rest) w long) ∙ read-low w n (h .0))
+    (ap (λ (b : List ℕ). littleEndian (take w b)) e ∙ ap littleEndian (take-at (lowBytes w n) (bytesOf ws ns ++ rest) w long) ∙ held w n (h .0))
     (ap (λ (b : List ℕ). numbersIn ws (drop w b)) e ∙ ap (numbersIn ws) (drop-at (lowBytes w n) (bytesOf ws ns ++ rest) w long) ∙ read-back ws ns rest (h .1))
 
 -- Record k of a table.

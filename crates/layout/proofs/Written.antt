@@ -16,7 +16,7 @@ use Rattle.spool.specs.declared.FrameRecord.{FrameRecord}
 use Rattle.spool.specs.Fields.{bytesOf}
 use Rattle.spool.specs.Layout.{recordWidths, recordNumbers, pixelBytes}
 use Rattle.spool.specs.Find.{recordFault}
-use Rattle.spool.proofs.Tests.{numbered}
+use Rattle.refusal.proofs.Numbers.{numbered}
 use Rattle.layout.specs.declared.Progress.{Progress}
 use Rattle.layout.specs.LayOut.{withOffset}
 use Rattle.layout.specs.Pass.{stateOf, grown, recordPlace, written, visited}

@@ -6,7 +6,7 @@ use mathlib.Core.Path.{sym, ap, _∙_}
 use lib.ListN.{length, length-take, length-drop}
 use borrow.Author.Needs.{needs}
 use Rattle.spool.specs.Find.{checked}
-use Rattle.spool.proofs.Tests.{numbered}
+use Rattle.refusal.proofs.Numbers.{numbered}
 use Rattle.spool.proofs.FindFaults.{opened, record-inside, record-there, shut-spool, no-such-frame, faulty, outside, found}
 use Rattle.spool.proofs.find.Statement.{statement}
 use Rattle.spool.proofs.find.Tie as tie

@@ -1,0 +1,48 @@
+-- Document 01's starred examples of light, as facts about the definitions: a level has the code that is the offset more.
+-- Assumes nothing.
+use Prim.Native.Nat.{ℕ, suc, _+_, _-_, min}
+use mathlib.Core.Path.{_≡_, refl, ap}
+use mathlib.Core.Bool.{true}
+use native.Mathlib.Omega.{arith}
+use lib.IntN.{pos, negsuc, negℤ}
+use Rattle.numbers.specs.Rounding.{nearest}
+use Rattle.esrgb.specs.Depths.{offset}
+use Rattle.linear.specs.Light.{scale, reachesLight, lightOfCode}
+use Rattle.linear.specs.Level.{reachesLevel, levelOfLight, codeOfLight}
+use Rattle.linear.proofs.Light.{isLight, light-is}
+use Rattle.linear.proofs.Level.{isFrom, isBelow, level-from, level-below}
+
+-- "Light at 12 bits, levels 1, −1, 82, 2,040: 38, −38, 3,111, 1,000,000. Level 20 at 10 bits: 3,035." negsuc 37 is −38.
+pub light-examples :
+    (lightOfCode 12 (offset 12 + 1) ≡ pos 38)
+    × (lightOfCode 12 (offset 12 - 1) ≡ negsuc 37)
+    × (lightOfCode 12 (offset 12 + 82) ≡ pos 3111)
+    × (lightOfCode 12 (offset 12 + 2040) ≡ pos 1000000)
+    × (lightOfCode 10 (offset 10 + 20) ≡ pos 3035)
+unfolding lightOfCode nearest reachesLight isLight
+light-examples = (
+  ap pos (light-is (scale 12) 1 38 refl),
+  ap (λ (m : ℕ). negℤ (pos m)) (light-is (scale 12) 1 38 refl),
+  ap pos (light-is (scale 12) 82 3111 refl),
+  ap pos (light-is (scale 12) 2040 1000000 refl),
+  ap pos (light-is (scale 10) 20 3035 refl),
+)
+
+level-is : (S q w : ℕ) → isFrom S q w ≡ true → isBelow S q (suc w) ≡ true → levelOfLight S q ≡ w
+level-is S q w from below = omega (arith, level-from S q w from, level-below S q (suc w) below)
+
+-- "Light 3,130 at 12 bits: code 1,618. 3,131: code 1,619."
+pub code-examples : (codeOfLight 12 (pos 3130) ≡ 1618) × (codeOfLight 12 (pos 3131) ≡ 1619)
+unfolding codeOfLight nearest reachesLevel isFrom isBelow
+code-examples = (
+  ap (λ (w : ℕ). min 4095 (offset 12 + w)) (level-is (scale 12) 3130 82 refl refl),
+  ap (λ (w : ℕ). min 4095 (offset 12 + w)) (level-is (scale 12) 3131 83 refl refl),
+)
+
+-- The least and the greatest light of 32 bits are clipped.
+pub clip-examples : (codeOfLight 10 (negsuc 2147483647) ≡ 0) × (codeOfLight 10 (pos 2147483647) ≡ 1023)
+unfolding codeOfLight nearest reachesLevel isFrom isBelow
+clip-examples = (
+  ap (λ (w : ℕ). offset 10 - w) (level-is (scale 10) 2147483648 13128 refl refl),
+  ap (λ (w : ℕ). min 1023 (offset 10 + w)) (level-is (scale 10) 2147483647 13128 refl refl),
+)

@@ -1,0 +1,5 @@
+pub mod Search
+pub mod Light
+pub mod Level
+pub mod Tables
+pub mod Operations

@@ -1,0 +1,212 @@
+// Linear light, both ways, at 10 and 12 bits: e-sRGB codes to signed millionths of reference white,
+// and such numbers to codes. For every input it promises the answer and every number or byte of the
+// destination, as document 01 and PIMA 7667 define them, and asks nothing of a caller.
+mod table;
+mod thresholds;
+
+use esrgb::Depth;
+use esrgb::greatest_of;
+use esrgb::step_of;
+use numbers::from_two;
+use numbers::two_bytes;
+use refusal::Answer;
+use refusal::Refusal;
+use samples::judge;
+use table::light_table;
+use thresholds::thresholds_at_ten;
+use thresholds::thresholds_at_twelve;
+ghost use mathlib.Core.Path.{_≡_};
+ghost use mathlib.Core.Bool.{true, cond};
+ghost use mathlib.Core.List.{map};
+ghost use Prim.Native.Nat.{ℕ, _+_, _-_, _*_, _/_, _^_, _<_, min};
+ghost use lib.ListN.{length, getD};
+ghost use lib.Dec.{leb};
+ghost use lib.IntN.{pos, negℤ, natAbs};
+ghost use Rattle.refusal.specs.Answers.{said, leaves};
+ghost use Rattle.samples.specs.Samples.{twoByTwo};
+ghost use Rattle.esrgb.specs.Depths.{bits};
+ghost use Rattle.linear.specs.Light.{offersLight, scale, lightOfCode};
+ghost use Rattle.linear.specs.Level.{levelOfLight, codeOfLight};
+ghost use Rattle.linear.specs.Tables.{levels, LightTable, ThresholdTable};
+ghost use Rattle.linear.specs.Operations.{codesToLightSays, codesToLight, lightToCodesSays, lightToCodes};
+
+// Codes to light: from two-byte samples, three to a pixel, to a number each. A depth other than 10
+// and 12, a part of a pixel, another room than a number a sample, and a code above the greatest are
+// refused, in this order.
+pub fn code_to_light(depth: u32, src: &[u8], dst: &mut [i32]) -> Answer
+    ensures answer { λ r. ⌜ said r ≡ codesToLightSays depth (now (src .entry)) (length (now (dst .entry))) ⌝ }
+    ensures numbers { λ r. ⌜ now (dst .exit) ≡ leaves (codesToLightSays depth (now (src .entry)) (length (now (dst .entry)))) (codesToLight depth (now (src .entry))) (now (dst .entry)) ⌝ }
+{
+    match depth {
+        10 => codes_to_light(Depth::Ten, src, dst),
+        12 => codes_to_light(Depth::Twelve, src, dst),
+        _ => Answer::Refused(Refusal::DepthNotOffered),
+    }
+}
+
+// The same at a depth that is offered. A 10-bit code times 4 is a 12-bit code of the same light: the
+// factor is the step of 12 bits, which is 8, over that of the depth.
+fn codes_to_light(depth: Depth, src: &[u8], dst: &mut [i32]) -> Answer
+    requires { ⌜ offersLight (bits depth) ≡ true ⌝ }
+    ensures answer { λ r. ⌜ said r ≡ codesToLightSays (bits depth) (now (src .entry)) (length (now (dst .entry))) ⌝ }
+    ensures numbers { λ r. ⌜ now (dst .exit) ≡ leaves (codesToLightSays (bits depth) (now (src .entry)) (length (now (dst .entry)))) (codesToLight (bits depth) (now (src .entry))) (now (dst .entry)) ⌝ }
+{
+    let len = src.len();
+    if len % 6 != 0 {
+        return Answer::Refused(Refusal::NotWholePixels);
+    }
+    if dst.len() != len / 2 {
+        return Answer::Refused(Refusal::WrongRoom);
+    }
+    let answer = judge(false, greatest_of(depth), src, len / 6);
+    match answer {
+        Answer::Done(_) => {
+            let lights = light_table();
+            write_lights(&lights, 8 / step_of(depth), src, dst);
+        }
+        Answer::Refused(_) => {}
+        Answer::RefusedAt(_, _) => {}
+    }
+    answer
+}
+
+// The light of each sample times factor.
+fn write_lights(lights: &[u32; 2560], factor: u16, src: &[u8], dst: &mut [i32])
+    requires { ⌜ LightTable (now lights) × (length (now dst) ≡ length (now src) / 2) × ((k : ℕ) → factor * getD (twoByTwo (now src)) k 0 < 4096) ⌝ }
+    ensures { λ r. ⌜ now (dst .exit) ≡ map (λ x. lightOfCode 12 (factor * x)) (twoByTwo (now (src .entry))) ⌝ }
+{
+    let mut k = 0;
+    while k < dst.len() {
+        let code = factor * from_two(src[2 * k], src[2 * k + 1]);
+        dst[k] = light_of(lights, code);
+        k += 1;
+    }
+}
+
+// The light of a 12-bit code.
+fn light_of(lights: &[u32; 2560], code: u16) -> i32
+    requires { ⌜ LightTable (now lights) × (code < 4096) ⌝ }
+    ensures { λ r. ⌜ r ≡ lightOfCode 12 code ⌝ }
+{
+    with_sign(code < 1536, lights[distance(code) as usize])
+}
+
+// How far a 12-bit code is from that of level 0.
+fn distance(code: u16) -> u16
+    ensures { λ r. ⌜ r ≡ (code - 1536) + (1536 - code) ⌝ }
+{
+    if code < 1536 {
+        1536 - code
+    } else {
+        code - 1536
+    }
+}
+
+fn with_sign(negative: bool, magnitude: u32) -> i32
+    requires { ⌜ magnitude < 2 ^ 31 ⌝ }
+    ensures { λ r. ⌜ r ≡ cond negative (negℤ (pos magnitude)) (pos magnitude) ⌝ }
+{
+    let value = magnitude as i32;
+    if negative { -value } else { value }
+}
+
+// Light to codes: from three numbers a pixel to two bytes each. A depth other than 10 and 12, a part
+// of a pixel and another room than two bytes a number are refused, in this order. No number is: each
+// is clipped.
+pub fn light_to_code(depth: u32, src: &[i32], dst: &mut [u8]) -> Answer
+    ensures answer { λ r. ⌜ said r ≡ lightToCodesSays depth (length (now (src .entry))) (length (now (dst .entry))) ⌝ }
+    ensures bytes { λ r. ⌜ now (dst .exit) ≡ leaves (lightToCodesSays depth (length (now (src .entry))) (length (now (dst .entry)))) (lightToCodes depth (now (src .entry))) (now (dst .entry)) ⌝ }
+{
+    match depth {
+        10 => {
+            let thresholds = thresholds_at_ten();
+            light_to_codes(&thresholds, Depth::Ten, src, dst)
+        }
+        12 => {
+            let thresholds = thresholds_at_twelve();
+            light_to_codes(&thresholds, Depth::Twelve, src, dst)
+        }
+        _ => Answer::Refused(Refusal::DepthNotOffered),
+    }
+}
+
+// The same at a depth that is offered.
+fn light_to_codes(thresholds: &[u32], depth: Depth, src: &[i32], dst: &mut [u8]) -> Answer
+    requires { ⌜ (offersLight (bits depth) ≡ true) × ThresholdTable (bits depth) (now thresholds) ⌝ }
+    ensures answer { λ r. ⌜ said r ≡ lightToCodesSays (bits depth) (length (now (src .entry))) (length (now (dst .entry))) ⌝ }
+    ensures bytes { λ r. ⌜ now (dst .exit) ≡ leaves (lightToCodesSays (bits depth) (length (now (src .entry))) (length (now (dst .entry)))) (lightToCodes (bits depth) (now (src .entry))) (now (dst .entry)) ⌝ }
+{
+    let len = src.len();
+    if len % 3 != 0 {
+        return Answer::Refused(Refusal::NotWholePixels);
+    }
+    if dst.len() != 2 * len {
+        return Answer::Refused(Refusal::WrongRoom);
+    }
+    write_codes(thresholds, depth, src, dst);
+    Answer::Done(len / 3)
+}
+
+// The two bytes of each code.
+fn write_codes(thresholds: &[u32], depth: Depth, src: &[i32], dst: &mut [u8])
+    requires { ⌜ ThresholdTable (bits depth) (now thresholds) × (length (now dst) ≡ 2 * length (now src)) ⌝ }
+    ensures { λ r. ⌜ now (dst .exit) ≡ lightToCodes (bits depth) (now (src .entry)) ⌝ }
+{
+    let mut k = 0;
+    while k < src.len() {
+        let bytes = two_bytes(code_of(thresholds, depth, src[k]));
+        dst[2 * k] = bytes.low;
+        dst[2 * k + 1] = bytes.high;
+        k += 1;
+    }
+}
+
+// The code of a light, clipped.
+fn code_of(thresholds: &[u32], depth: Depth, light: i32) -> u16
+    requires { ⌜ ThresholdTable (bits depth) (now thresholds) ⌝ }
+    ensures { λ r. ⌜ r ≡ codeOfLight (bits depth) light ⌝ }
+{
+    let offset = 192 * step_of(depth);
+    let level = level_of(thresholds, depth, magnitude(light)) as u16;
+    if light < 0 {
+        if level < offset { offset - level } else { 0 }
+    } else {
+        offset + level
+    }
+}
+
+// A number without its sign. That of -2,147,483,648 is no i32.
+fn magnitude(number: i32) -> u32
+    ensures { λ r. ⌜ r ≡ natAbs number ⌝ }
+{
+    if number < 0 {
+        (-(number as i64)) as u32
+    } else {
+        number as u32
+    }
+}
+
+// The level of a light without its sign, at most the greatest level of a code. Codes have 320 * step
+// levels from 0 up. The first look leaves 256 * step, a power of two, and each turn leaves a half.
+fn level_of(thresholds: &[u32], depth: Depth, light: u32) -> usize
+    requires { ⌜ ThresholdTable (bits depth) (now thresholds) ⌝ }
+    ensures { λ r. ⌜ r ≡ min (levelOfLight (scale (bits depth)) light) (levels (bits depth) - 1) ⌝ }
+{
+    let step = step_of(depth) as usize;
+    let mut level = passed(64 * step, thresholds[64 * step], light);
+    let mut width = 256 * step;
+    while 1 < width {
+        let half = width / 2;
+        level += passed(half, thresholds[level + half], light);
+        width -= half;
+    }
+    level
+}
+
+// All of some levels if the light reaches the threshold, else none; without a branch, since nobody
+// can foretell which.
+fn passed(count: usize, threshold: u32, light: u32) -> usize
+    ensures { λ r. ⌜ r ≡ cond (leb threshold light) count 0 ⌝ }
+{
+    count * ((threshold <= light) as usize)
+}

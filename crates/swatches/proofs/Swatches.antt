@@ -1,0 +1,17 @@
+-- Every starred swatch holds. A pixel's is computed; light's are computed by the powers that decide them.
+-- Assumes nothing.
+use mathlib.Core.Path.{refl}
+use Rattle.numbers.specs.Rounding.{nearest, nearestDown}
+use Rattle.esrgb.specs.Codes.{fromSrgb, toSrgb}
+use Rattle.lumachroma.specs.LumaChroma.{luma, chroma, blueChroma, redChroma, clipped, redBack, greenBack, blueBack}
+use Rattle.linear.proofs.Examples.{light-examples, code-examples}
+use Rattle.swatches.specs.Swatches.{AllHold, done, _&_, swatches}
+
+pub all-hold : AllHold swatches
+unfolding nearest nearestDown fromSrgb toSrgb luma chroma blueChroma redChroma clipped redBack greenBack blueBack
+all-hold =
+    refl & refl & refl & refl & refl
+    & light-examples .0 & light-examples .1 & light-examples .2 & light-examples .3 & light-examples .4
+    & code-examples .0 & code-examples .1
+    & refl & refl & refl & refl & refl & refl & refl & refl & refl
+    & done

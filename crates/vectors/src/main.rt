@@ -1,0 +1,116 @@
+// Runs document 01's unstarred swatches and the neutral patches of PIMA 7667's table (4.4.3), and prints what
+// the library gives. `stdout` beside this has what the second implementation gives for them: see
+// rust/reference, whose program of the same name prints it.
+use libc::STDOUT_FILENO;
+use picture::Conversion;
+use spool::Found;
+use spool::Opened;
+
+// One field of a line.
+fn show(n: u64) {
+    io::write_all(STDOUT_FILENO, b" ");
+    io::print_decimal(STDOUT_FILENO, n);
+}
+
+fn end_line() {
+    io::write_all(STDOUT_FILENO, b"\n");
+}
+
+// A code brought from one depth to another.
+fn depth_row(from: u32, to: u32, low: u8, high: u8) {
+    let src = [low, high, low, high, low, high];
+    let mut dst = [0u8; 6];
+    picture::convert(Conversion::ChangeDepth { from, to }, &src, &mut dst);
+    io::write_all(STDOUT_FILENO, b"depth");
+    show(from as u64);
+    show(to as u64);
+    show(numbers::from_two(low, high) as u64);
+    show(numbers::from_two(dst[0], dst[1]) as u64);
+    end_line();
+}
+
+// The code of a light.
+fn code_of(depth: u32, light: i32) -> u64 {
+    let src = [light, light, light];
+    let mut dst = [0u8; 6];
+    linear::light_to_code(depth, &src, &mut dst);
+    numbers::from_two(dst[0], dst[1]) as u64
+}
+
+// A neutral patch: its light, and its codes at 10 and 12 bits.
+fn patch_row(light: i32, printed: u64) {
+    io::write_all(STDOUT_FILENO, b"patch");
+    show(printed);
+    show(code_of(10, light));
+    show(code_of(12, light));
+    end_line();
+}
+
+// The refusal of the one frame of a spool, 0 where it is found.
+fn frame_refusal(file: &[u8]) -> u64 {
+    let found = spool::find(file, 0);
+    match found {
+        Found::Frame(_) => 0,
+        Found::Refused(why) => refusal::number(why) as u64,
+    }
+}
+
+// A spool with one frame of sRGB, one row of a width that is given by its bytes.
+fn width_row(low: u8, high: u8) {
+    let mut file = [0u8; 24604];
+    file[0] = 1;
+    file[4] = 12;
+    file[8] = 28;
+    file[9] = 96;
+    file[12] = 28;
+    file[16] = low;
+    file[17] = high;
+    file[18] = 1;
+    file[20] = 1;
+    file[21] = 8;
+    io::write_all(STDOUT_FILENO, b"width");
+    show(numbers::from_two(low, high) as u64);
+    show(frame_refusal(&file));
+    end_line();
+}
+
+// The refusal of a spool, 0 where it opens.
+fn open_refusal(file: &[u8]) -> u64 {
+    let opened = spool::open(file);
+    match opened {
+        Opened::Spool(_) => 0,
+        Opened::Refused(why) => refusal::number(why) as u64,
+    }
+}
+
+// A spool with room for the records of 256 frames, and a count that is given by its bytes.
+fn frames_row(low: u8, high: u8) {
+    let mut file = [0u8; 4108];
+    file[0] = low;
+    file[1] = high;
+    file[4] = 12;
+    file[8] = 12;
+    file[9] = 16;
+    io::write_all(STDOUT_FILENO, b"frames");
+    show(numbers::from_two(low, high) as u64);
+    show(open_refusal(&file));
+    end_line();
+}
+
+fn main() {
+    depth_row(10, 12, 255, 3);
+    depth_row(12, 10, 3, 6);
+    width_row(0, 32);
+    width_row(1, 32);
+    frames_row(255, 0);
+    frames_row(0, 1);
+    patch_row(0, 0);
+    patch_row(10100, 10100);
+    patch_row(30300, 30300);
+    patch_row(70710, 70710);
+    patch_row(141410, 141410);
+    patch_row(292930, 292930);
+    patch_row(595960, 595960);
+    patch_row(797980, 797980);
+    patch_row(1000000, 1000000);
+}

@@ -1,0 +1,45 @@
+//! Prints what this implementation gives for document 01's unstarred swatches and for the neutral patches of
+//! PIMA 7667's table (4.4.3). The program `vectors` over the proved library must print the same.
+
+use reference::{light, samples, spool};
+
+fn spool_with(count: u16, width: u16, length: usize) -> Vec<u8> {
+    let mut file = vec![0; length];
+    file[0..2].copy_from_slice(&count.to_le_bytes());
+    file[4..8].copy_from_slice(&12u32.to_le_bytes());
+    file[8..12].copy_from_slice(&(length as u32).to_le_bytes());
+    file[12..16].copy_from_slice(&28u32.to_le_bytes());
+    file[16..18].copy_from_slice(&width.to_le_bytes());
+    file[18..20].copy_from_slice(&1u16.to_le_bytes());
+    file[20] = 1;
+    file[21] = 8;
+    file
+}
+
+fn main() {
+    for (from, to, code) in [(10, 12, 1023), (12, 10, 1539)] {
+        println!(
+            "depth {from} {to} {code} {}",
+            samples::change_depth(from, to, code)
+        );
+    }
+    for width in [8192, 8193] {
+        let file = spool_with(1, width, 28 + 3 * 8192);
+        let refusal = spool::find(&file, 0).map_or_else(|refusal| refusal.number, |_| 0);
+        println!("width {width} {refusal}");
+    }
+    for count in [255, 256] {
+        let file = spool_with(count, 0, 12 + 16 * 256);
+        let refusal = spool::open(&file).map_or_else(|refusal| refusal.number, |_| 0);
+        println!("frames {count} {refusal}");
+    }
+    // Y of the table, in hundred-thousandths as printed there.
+    for y in [0, 1010, 3030, 7071, 14141, 29293, 59596, 79798, 100000] {
+        let light = 10 * y;
+        println!(
+            "patch {light} {} {}",
+            light::to_code(10, light),
+            light::to_code(12, light)
+        );
+    }
+}

@@ -1,0 +1,171 @@
+//! Convert and light over buffers: the refusals in document 01's order, then every sample.
+
+use crate::{light, samples, Refusal};
+
+/// What a pixel buffer holds.
+#[derive(Clone, Copy, Debug, PartialEq, Eq)]
+pub enum Form {
+    Srgb,
+    Esrgb(u32),
+    /// Document 01's sheet.
+    LumaChroma(u32),
+}
+
+impl Form {
+    fn offered(self) -> bool {
+        match self {
+            Form::Srgb => true,
+            Form::Esrgb(depth) | Form::LumaChroma(depth) => samples::offered(depth),
+        }
+    }
+
+    fn bits(self) -> u32 {
+        match self {
+            Form::Srgb => 8,
+            Form::Esrgb(depth) | Form::LumaChroma(depth) => depth,
+        }
+    }
+
+    /// The bytes of a sample.
+    pub fn width(self) -> usize {
+        if self.bits() == 8 {
+            1
+        } else {
+            2
+        }
+    }
+
+    fn read(self, bytes: &[u8]) -> Vec<i64> {
+        bytes
+            .chunks_exact(self.width())
+            .map(|sample| sample.iter().rev().fold(0, |n, &b| 256 * n + i64::from(b)))
+            .collect()
+    }
+
+    fn write(self, samples: &[i64]) -> Vec<u8> {
+        samples
+            .iter()
+            .flat_map(|sample| sample.to_le_bytes().into_iter().take(self.width()))
+            .collect()
+    }
+
+    /// The first sample at fault, in byte order.
+    fn fault(self, samples: &[i64]) -> Option<Refusal> {
+        let sheet = matches!(self, Form::LumaChroma(_));
+        samples.iter().enumerate().find_map(|(k, &sample)| {
+            if sample > samples::greatest(self.bits()) {
+                Some(Refusal::at(12, self.width() * k))
+            } else if sheet && k % 3 != 0 && sample == 0 {
+                Some(Refusal::at(13, self.width() * k))
+            } else {
+                None
+            }
+        })
+    }
+}
+
+/// The conversions of document 01.
+#[derive(Clone, Copy, Debug, PartialEq, Eq)]
+pub enum Conversion {
+    FromSrgb(u32),
+    ToSrgb(u32),
+    ChangeDepth(u32, u32),
+    ToLumaChroma(u32),
+    FromLumaChroma(u32),
+}
+
+impl Conversion {
+    pub fn source(self) -> Form {
+        match self {
+            Conversion::FromSrgb(_) => Form::Srgb,
+            Conversion::ToSrgb(depth)
+            | Conversion::ChangeDepth(depth, _)
+            | Conversion::ToLumaChroma(depth) => Form::Esrgb(depth),
+            Conversion::FromLumaChroma(depth) => Form::LumaChroma(depth),
+        }
+    }
+
+    pub fn target(self) -> Form {
+        match self {
+            Conversion::ToSrgb(_) => Form::Srgb,
+            Conversion::FromSrgb(depth)
+            | Conversion::ChangeDepth(_, depth)
+            | Conversion::FromLumaChroma(depth) => Form::Esrgb(depth),
+            Conversion::ToLumaChroma(depth) => Form::LumaChroma(depth),
+        }
+    }
+
+    /// One pixel, converted.
+    pub fn pixel(self, pixel: [i64; 3]) -> [i64; 3] {
+        match self {
+            Conversion::FromSrgb(depth) => pixel.map(|a| samples::from_srgb(depth, a)),
+            Conversion::ToSrgb(depth) => pixel.map(|c| samples::to_srgb(depth, c)),
+            Conversion::ChangeDepth(from, to) => pixel.map(|c| samples::change_depth(from, to, c)),
+            Conversion::ToLumaChroma(depth) => samples::to_luma_chroma(depth, pixel),
+            Conversion::FromLumaChroma(depth) => samples::from_luma_chroma(depth, pixel),
+        }
+    }
+}
+
+/// Converts a picture. Accepted, it gives the pixel count.
+pub fn convert(conversion: Conversion, src: &[u8], dst: &mut [u8]) -> Result<usize, Refusal> {
+    let (from, to) = (conversion.source(), conversion.target());
+    if !from.offered() || !to.offered() {
+        return Err(Refusal::plain(9));
+    }
+    if !src.len().is_multiple_of(3 * from.width()) {
+        return Err(Refusal::plain(10));
+    }
+    let pixels = src.len() / (3 * from.width());
+    if dst.len() != pixels * 3 * to.width() {
+        return Err(Refusal::plain(11));
+    }
+    let samples = from.read(src);
+    if let Some(refusal) = from.fault(&samples) {
+        return Err(refusal);
+    }
+    let converted: Vec<i64> = samples
+        .chunks_exact(3)
+        .flat_map(|p| conversion.pixel([p[0], p[1], p[2]]))
+        .collect();
+    dst.copy_from_slice(&to.write(&converted));
+    Ok(pixels)
+}
+
+/// E-sRGB codes to light. Accepted, it gives the pixel count.
+pub fn code_to_light(depth: u32, src: &[u8], dst: &mut [i32]) -> Result<usize, Refusal> {
+    if !light::offered(depth) {
+        return Err(Refusal::plain(9));
+    }
+    if !src.len().is_multiple_of(6) {
+        return Err(Refusal::plain(10));
+    }
+    if dst.len() != src.len() / 2 {
+        return Err(Refusal::plain(11));
+    }
+    let form = Form::Esrgb(depth);
+    let samples = form.read(src);
+    if let Some(refusal) = form.fault(&samples) {
+        return Err(refusal);
+    }
+    for (number, &code) in dst.iter_mut().zip(&samples) {
+        *number = light::from_code(depth, code);
+    }
+    Ok(src.len() / 6)
+}
+
+/// Light to e-sRGB codes. Accepted, it gives the pixel count.
+pub fn light_to_code(depth: u32, src: &[i32], dst: &mut [u8]) -> Result<usize, Refusal> {
+    if !light::offered(depth) {
+        return Err(Refusal::plain(9));
+    }
+    if !src.len().is_multiple_of(3) {
+        return Err(Refusal::plain(10));
+    }
+    if dst.len() != 2 * src.len() {
+        return Err(Refusal::plain(11));
+    }
+    let codes: Vec<i64> = src.iter().map(|&q| light::to_code(depth, q)).collect();
+    dst.copy_from_slice(&Form::Esrgb(depth).write(&codes));
+    Ok(src.len() / 3)
+}

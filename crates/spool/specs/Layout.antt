@@ -1,14 +1,17 @@
 -- How a spool file is laid out (document 01, "The spool file"), and what its records may say.
 -- Assumes nothing.
-use Prim.Native.Nat.{ℕ, _*_}
+use Prim.Native.Nat.{ℕ, _+_, _*_, _≤_, _<_}
 use mathlib.Core.Bool.{Bool, false, cond, _||_}
 use mathlib.Core.List.{List, [], _∷_}
-use lib.ListN.{getD}
+use mathlib.Core.Path.{_≡_}
+use lib.ListN.{length, getD, drop}
 use lib.Dec.{eqb, ltb}
 use Rattle.esrgb.specs.Depths.{offered}
 use Rattle.samples.specs.Samples.{isWide, pixelSize}
 use Rattle.spool.specs.declared.Header.{Header}
 use Rattle.spool.specs.declared.FrameRecord.{FrameRecord}
+use Rattle.spool.specs.declared.Read.{Read}
+use Rattle.spool.specs.declared.Read.the-variants.{Record, Short}
 use Rattle.spool.specs.Fields.{sizeOf, numbersIn}
 
 -- "Header, 12 bytes: frame count (2), shop (2, any), offset of the record table (4), file length (4)."
@@ -46,6 +49,11 @@ headerIn bytes = headerFrom (numbersIn headerWidths bytes)
 
 unfoldable pub recordIn : List ℕ → FrameRecord
 recordIn bytes = recordFrom (numbersIn recordWidths bytes)
+
+-- What reading a record at a place gives: the record, or none where its 16 bytes are not all there.
+abbrev pub Reads : List ℕ → ℕ → Read → Type 0
+Reads bytes at (Record r) = (at + recordSize ≤ length bytes) × (r ≡ recordIn (drop at bytes))
+Reads bytes at Short = length bytes < at + recordSize
 
 -- "3 count above 255 (0 is allowed)": the most frames that a spool has.
 abbrev pub frameLimit : ℕ

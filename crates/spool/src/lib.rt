@@ -10,7 +10,7 @@ ghost use mathlib.Core.Path.{_≡_};
 ghost use Prim.Native.Nat.{_+_, _*_, _≤_};
 ghost use lib.ListN.{length};
 ghost use Rattle.esrgb.specs.Depths.{offered};
-ghost use Rattle.spool.specs.Layout.{headerIn, recordIn, isPair, badSide, pixelBytes};
+ghost use Rattle.spool.specs.Layout.{headerIn, recordIn, Reads, isPair, badSide, pixelBytes};
 ghost use Rattle.spool.specs.Open.{openSaid, openSays};
 ghost use Rattle.spool.specs.Find.{checked, recordFault, pixelsOutside, findSaid, findSays, IsPixels};
 
@@ -71,6 +71,25 @@ fn record_in(bytes: &[u8]) -> FrameRecord
         copies: from_two(bytes[10], bytes[11]),
         order: from_four(bytes[12], bytes[13], bytes[14], bytes[15]),
     }
+}
+
+// A record that was asked for, or too few bytes for one.
+pub enum Read {
+    Record(FrameRecord),
+    Short,
+}
+
+// The record at a place of some bytes, for whoever keeps records as bytes.
+pub fn read_record(bytes: &[u8], at: usize) -> Read
+    ensures { λ r. ⌜ Reads (now (bytes .entry)) at r ⌝ }
+{
+    if bytes.len() < RECORD_SIZE {
+        return Read::Short;
+    }
+    if bytes.len() - RECORD_SIZE < at {
+        return Read::Short;
+    }
+    Read::Record(record_in(&bytes[at..]))
 }
 
 // What an open spool holds.

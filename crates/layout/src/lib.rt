@@ -119,7 +119,7 @@ pub struct Progress {
 }
 
 // One record: checked, and written where the pass writes.
-fn visit(dst: &mut [u8], progress: Progress, place: usize, frame: FrameRecord) -> Progress
+pub fn visit(dst: &mut [u8], progress: Progress, place: usize, frame: FrameRecord) -> Progress
     ensures { λ r. ⌜ stateOf r (now (dst .exit)) ≡ visited (stateOf progress (now (dst .entry))) place frame ⌝ }
 {
     let writing = progress.writing;
@@ -185,7 +185,7 @@ fn stop(answer: Answer) -> Progress
 
 // Between the pass that checks and the pass that writes: the refusals in document 01's order, and
 // the header.
-fn ready(checked: Progress, count: usize, shop: u16, dst: &mut [u8]) -> Progress
+pub fn ready(checked: Progress, count: usize, shop: u16, dst: &mut [u8]) -> Progress
     ensures { λ r. ⌜ stateOf r (now (dst .exit)) ≡ readied count shop (stateOf checked (now (dst .entry))) ⌝ }
 {
     if FRAME_LIMIT < count {
@@ -214,7 +214,7 @@ fn pass(records: &[FrameRecord], dst: &mut [u8], start: Progress) -> Progress
 }
 
 // A pass that checks, before its first record.
-fn unchecked() -> Progress
+pub fn unchecked() -> Progress
     ensures { λ r. ⌜ (r .writing ≡ false) × (r .answer ≡ Answer.Done 0) ⌝ }
 {
     stop(Answer::Done(0))

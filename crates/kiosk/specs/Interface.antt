@@ -1,0 +1,68 @@
+-- What the C interface gives for what an operation says: a count or minus the refusal's number, the place, and a record as the
+-- 16 bytes that it has in a spool file.
+-- Assumes nothing.
+use Prim.Native.Nat.{ℕ, zero, suc, _/_, _^_, _<_}
+use mathlib.Core.List.{List, [], _∷_}
+use lib.ListN.{length, drop}
+use lib.IntN.{ℤ, pos, negℤ}
+use Rattle.refusal.specs.Answers.{Said, accepted, refused, refusedAt}
+use Rattle.spool.specs.declared.FrameRecord.{FrameRecord}
+use Rattle.spool.specs.Fields.{bytesOf}
+use Rattle.spool.specs.Layout.{recordSize, recordWidths, recordNumbers, recordIn, pixelBytes}
+use Rattle.spool.specs.Open.{OpenSaid, opens, refused as open-refused}
+use Rattle.spool.specs.Find.{FindSaid, finds, refused as find-refused}
+
+abbrev pub minus : ℕ → ℤ
+minus number = negℤ (pos number)
+
+abbrev pub answerOf : Said → ℤ
+answerOf (accepted n) = pos n
+answerOf (refused k) = minus k
+answerOf (refusedAt k at) = minus k
+
+-- "12 and 13 give the byte offset of the sample, the other refusals their number only": where there is no place, what stood
+-- there stays.
+abbrev pub placeOf : Said → ℕ → ℕ
+placeOf (accepted n) before = before
+placeOf (refused k) before = before
+placeOf (refusedAt k at) before = at
+
+-- A count that a signed number of 64 bits holds.
+abbrev pub Countable : Said → Type 0
+Countable (accepted n) = n < 2 ^ 63
+Countable (refused k) = Unit
+Countable (refusedAt k at) = Unit
+
+-- "Accepted, the frame count, the shop and the table offset"; "refused, it gives the number only", and the two others stay.
+abbrev pub openAnswer : OpenSaid → ℤ
+openAnswer (opens count shop table) = pos count
+openAnswer (open-refused k) = minus k
+
+abbrev pub openShop : OpenSaid → ℕ → ℕ
+openShop (opens count shop table) before = shop
+openShop (open-refused k) before = before
+
+abbrev pub openTable : OpenSaid → ℕ → ℕ
+openTable (opens count shop table) before = table
+openTable (open-refused k) before = before
+
+-- "Accepted, the answer is the frame's own stretch of the lent file and its record": the length of the stretch, whose start
+-- is the record's offset. "Refused, the stretch is empty, at the file's start, and the record is all zeros."
+abbrev pub findAnswer : FindSaid → ℤ
+findAnswer (finds r) = pos (pixelBytes r)
+findAnswer (find-refused k r) = minus k
+
+abbrev pub recordBytes : FrameRecord → List ℕ
+recordBytes r = bytesOf recordWidths (recordNumbers r)
+
+abbrev pub findRecord : FindSaid → List ℕ
+findRecord (finds r) = recordBytes r
+findRecord (find-refused k r) = recordBytes r
+
+-- Records as bytes: the first so many, and as many as are whole.
+unfoldable pub firstRecords : ℕ → List ℕ → List FrameRecord
+firstRecords zero bytes = []
+firstRecords (suc count) bytes = recordIn bytes ∷ firstRecords count (drop recordSize bytes)
+
+abbrev pub recordsIn : List ℕ → List FrameRecord
+recordsIn bytes = firstRecords (length bytes / recordSize) bytes

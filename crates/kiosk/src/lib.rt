@@ -1,0 +1,343 @@
+// The C interface: every operation of the library under a C name, over numbers and slices, for
+// include/kiosk.h. It promises that C gets exactly what the operation says, as a count or minus the
+// refusal's number, and exactly its bytes; it asks nothing of a caller that C's types do not say.
+use frames::step_from;
+use layout::Progress;
+use layout::ready;
+use layout::unchecked;
+use layout::visit;
+use linear::code_to_light;
+use linear::light_to_code;
+use numbers::four_bytes;
+use numbers::two_bytes;
+use picture::Conversion;
+use picture::convert;
+use refusal::Answer;
+use refusal::Refusal;
+use refusal::number;
+use roundtrip::round_trip;
+use spool::Found;
+use spool::FrameRecord;
+use spool::Opened;
+use spool::RECORD_SIZE;
+use spool::Read;
+use spool::find;
+use spool::open;
+use spool::pixel_bytes;
+use spool::read_record;
+ghost use mathlib.Core.Path.{_≡_};
+ghost use lib.ListN.{length};
+ghost use Rattle.refusal.specs.Refusals.{numberOf};
+ghost use Rattle.refusal.specs.Answers.{said, leaves};
+ghost use Rattle.picture.specs.Convert.{convertSays, convertBytes};
+ghost use Rattle.linear.specs.Operations.{codesToLightSays, codesToLight, lightToCodesSays, lightToCodes};
+ghost use Rattle.spool.specs.Open.{openSays};
+ghost use Rattle.spool.specs.Find.{findSaid, findSays};
+ghost use Rattle.frames.specs.Walk.{nextNumber};
+ghost use Rattle.layout.specs.LayOut.{layoutSays, layoutBytes};
+ghost use Rattle.layout.specs.Pass.{stateOf, walked};
+ghost use Rattle.kiosk.specs.Interface.{minus, answerOf, placeOf, Countable, openAnswer, openShop, openTable, findAnswer, recordBytes, findRecord, recordsIn};
+
+// A refusal, as C gets it.
+fn refused(refusal: Refusal) -> i64
+    ensures { λ r. ⌜ r ≡ minus (numberOf refusal) ⌝ }
+{
+    -(number(refusal) as i64)
+}
+
+// An answer, as C gets it: the place is written where the answer has one.
+fn answered(answer: Answer, place: &mut usize) -> i64
+    requires { ⌜ Countable (said answer) ⌝ }
+    ensures value { λ r. ⌜ r ≡ answerOf (said answer) ⌝ }
+    ensures at { λ _. ⌜ now (place .exit) ≡ placeOf (said answer) (now (place .entry)) ⌝ }
+{
+    match answer {
+        Answer::Done(count) => count as i64,
+        Answer::Refused(refusal) => refused(refusal),
+        Answer::RefusedAt(refusal, at) => {
+            *place = at;
+            refused(refusal)
+        }
+    }
+}
+
+// ---- Convert
+
+fn converted(conversion: Conversion, src: &[u8], dst: &mut [u8], place: &mut usize) -> i64
+    ensures value { λ r. ⌜ r ≡ answerOf (convertSays conversion (now (src .entry)) (length (now (dst .entry)))) ⌝ }
+    ensures bytes { λ _. ⌜ now (dst .exit) ≡ convertBytes conversion (now (src .entry)) (now (dst .entry)) ⌝ }
+    ensures at { λ _. ⌜ now (place .exit) ≡ placeOf (convertSays conversion (now (src .entry)) (length (now (dst .entry)))) (now (place .entry)) ⌝ }
+{
+    let answer = convert(conversion, src, dst);
+    answered(answer, place)
+}
+
+// 8-bit sRGB to e-sRGB.
+#[no_mangle]
+pub extern "C" fn kiosk_from_srgb(depth: u32, src: &[u8], dst: &mut [u8], place: &mut usize) -> i64
+    ensures value { λ r. ⌜ r ≡ answerOf (convertSays (Conversion.FromSrgb depth) (now (src .entry)) (length (now (dst .entry)))) ⌝ }
+    ensures bytes { λ _. ⌜ now (dst .exit) ≡ convertBytes (Conversion.FromSrgb depth) (now (src .entry)) (now (dst .entry)) ⌝ }
+    ensures at { λ _. ⌜ now (place .exit) ≡ placeOf (convertSays (Conversion.FromSrgb depth) (now (src .entry)) (length (now (dst .entry)))) (now (place .entry)) ⌝ }
+{
+    converted(Conversion::FromSrgb { depth }, src, dst, place)
+}
+
+// E-sRGB to 8-bit sRGB.
+#[no_mangle]
+pub extern "C" fn kiosk_to_srgb(depth: u32, src: &[u8], dst: &mut [u8], place: &mut usize) -> i64
+    ensures value { λ r. ⌜ r ≡ answerOf (convertSays (Conversion.ToSrgb depth) (now (src .entry)) (length (now (dst .entry)))) ⌝ }
+    ensures bytes { λ _. ⌜ now (dst .exit) ≡ convertBytes (Conversion.ToSrgb depth) (now (src .entry)) (now (dst .entry)) ⌝ }
+    ensures at { λ _. ⌜ now (place .exit) ≡ placeOf (convertSays (Conversion.ToSrgb depth) (now (src .entry)) (length (now (dst .entry)))) (now (place .entry)) ⌝ }
+{
+    converted(Conversion::ToSrgb { depth }, src, dst, place)
+}
+
+// E-sRGB of one depth to another.
+#[no_mangle]
+pub extern "C" fn kiosk_change_depth(
+    from: u32,
+    to: u32,
+    src: &[u8],
+    dst: &mut [u8],
+    place: &mut usize,
+) -> i64
+    ensures value { λ r. ⌜ r ≡ answerOf (convertSays (Conversion.ChangeDepth from to) (now (src .entry)) (length (now (dst .entry)))) ⌝ }
+    ensures bytes { λ _. ⌜ now (dst .exit) ≡ convertBytes (Conversion.ChangeDepth from to) (now (src .entry)) (now (dst .entry)) ⌝ }
+    ensures at { λ _. ⌜ now (place .exit) ≡ placeOf (convertSays (Conversion.ChangeDepth from to) (now (src .entry)) (length (now (dst .entry)))) (now (place .entry)) ⌝ }
+{
+    converted(Conversion::ChangeDepth { from, to }, src, dst, place)
+}
+
+// E-sRGB to luma and chroma, document 01's sheet.
+#[no_mangle]
+pub extern "C" fn kiosk_to_luma_chroma(
+    depth: u32,
+    src: &[u8],
+    dst: &mut [u8],
+    place: &mut usize,
+) -> i64
+    ensures value { λ r. ⌜ r ≡ answerOf (convertSays (Conversion.ToLumaChroma depth) (now (src .entry)) (length (now (dst .entry)))) ⌝ }
+    ensures bytes { λ _. ⌜ now (dst .exit) ≡ convertBytes (Conversion.ToLumaChroma depth) (now (src .entry)) (now (dst .entry)) ⌝ }
+    ensures at { λ _. ⌜ now (place .exit) ≡ placeOf (convertSays (Conversion.ToLumaChroma depth) (now (src .entry)) (length (now (dst .entry)))) (now (place .entry)) ⌝ }
+{
+    converted(Conversion::ToLumaChroma { depth }, src, dst, place)
+}
+
+// Luma and chroma back to e-sRGB.
+#[no_mangle]
+pub extern "C" fn kiosk_from_luma_chroma(
+    depth: u32,
+    src: &[u8],
+    dst: &mut [u8],
+    place: &mut usize,
+) -> i64
+    ensures value { λ r. ⌜ r ≡ answerOf (convertSays (Conversion.FromLumaChroma depth) (now (src .entry)) (length (now (dst .entry)))) ⌝ }
+    ensures bytes { λ _. ⌜ now (dst .exit) ≡ convertBytes (Conversion.FromLumaChroma depth) (now (src .entry)) (now (dst .entry)) ⌝ }
+    ensures at { λ _. ⌜ now (place .exit) ≡ placeOf (convertSays (Conversion.FromLumaChroma depth) (now (src .entry)) (length (now (dst .entry)))) (now (place .entry)) ⌝ }
+{
+    converted(Conversion::FromLumaChroma { depth }, src, dst, place)
+}
+
+// ---- linear light
+
+// E-sRGB codes to linear light.
+#[no_mangle]
+pub extern "C" fn kiosk_code_to_light(
+    depth: u32,
+    src: &[u8],
+    dst: &mut [i32],
+    place: &mut usize,
+) -> i64
+    ensures value { λ r. ⌜ r ≡ answerOf (codesToLightSays depth (now (src .entry)) (length (now (dst .entry)))) ⌝ }
+    ensures numbers { λ _. ⌜ now (dst .exit) ≡ leaves (codesToLightSays depth (now (src .entry)) (length (now (dst .entry)))) (codesToLight depth (now (src .entry))) (now (dst .entry)) ⌝ }
+    ensures at { λ _. ⌜ now (place .exit) ≡ placeOf (codesToLightSays depth (now (src .entry)) (length (now (dst .entry)))) (now (place .entry)) ⌝ }
+{
+    let answer = code_to_light(depth, src, dst);
+    answered(answer, place)
+}
+
+// Linear light to e-sRGB codes. No refusal of it has a place.
+#[no_mangle]
+pub extern "C" fn kiosk_light_to_code(depth: u32, src: &[i32], dst: &mut [u8]) -> i64
+    ensures value { λ r. ⌜ r ≡ answerOf (lightToCodesSays depth (length (now (src .entry))) (length (now (dst .entry)))) ⌝ }
+    ensures bytes { λ _. ⌜ now (dst .exit) ≡ leaves (lightToCodesSays depth (length (now (src .entry))) (length (now (dst .entry)))) (lightToCodes depth (now (src .entry))) (now (dst .entry)) ⌝ }
+{
+    let answer = light_to_code(depth, src, dst);
+    let mut place = 0;
+    answered(answer, &mut place)
+}
+
+// ---- the round trip
+
+// E-sRGB to luma and chroma, and those back in a third buffer: two calls of Convert, the first of
+// which gives what is returned.
+#[no_mangle]
+pub extern "C" fn kiosk_round_trip(
+    depth: u32,
+    codes: &[u8],
+    sheet: &mut [u8],
+    back: &mut [u8],
+    place: &mut usize,
+    again: &mut i64,
+    again_place: &mut usize,
+) -> i64
+    ensures value { λ r. ⌜ r ≡ answerOf (convertSays (Conversion.ToLumaChroma depth) (now (codes .entry)) (length (now (sheet .entry)))) ⌝ }
+    ensures sheet { λ _. ⌜ now (sheet .exit) ≡ convertBytes (Conversion.ToLumaChroma depth) (now (codes .entry)) (now (sheet .entry)) ⌝ }
+    ensures back { λ _. ⌜ now (back .exit) ≡ convertBytes (Conversion.FromLumaChroma depth) (now (sheet .exit)) (now (back .entry)) ⌝ }
+    ensures at { λ _. ⌜ now (place .exit) ≡ placeOf (convertSays (Conversion.ToLumaChroma depth) (now (codes .entry)) (length (now (sheet .entry)))) (now (place .entry)) ⌝ }
+    ensures again { λ _. ⌜ now (again .exit) ≡ answerOf (convertSays (Conversion.FromLumaChroma depth) (now (sheet .exit)) (length (now (back .entry)))) ⌝ }
+    ensures again_at { λ _. ⌜ now («again_place» .exit) ≡ placeOf (convertSays (Conversion.FromLumaChroma depth) (now (sheet .exit)) (length (now (back .entry)))) (now («again_place» .entry)) ⌝ }
+{
+    let trip = round_trip(depth, codes, sheet, back);
+    let first = trip.there;
+    let second = trip.again;
+    *again = answered(second, again_place);
+    answered(first, place)
+}
+
+// ---- the spool
+
+// Opens a spool: its frame count; shop and table offset through the pointers.
+#[no_mangle]
+pub extern "C" fn kiosk_open(file: &[u8], shop: &mut u16, table: &mut u32) -> i64
+    ensures value { λ r. ⌜ r ≡ openAnswer (openSays (now (file .entry))) ⌝ }
+    ensures shop { λ _. ⌜ now (shop .exit) ≡ openShop (openSays (now (file .entry))) (now (shop .entry)) ⌝ }
+    ensures table { λ _. ⌜ now (table .exit) ≡ openTable (openSays (now (file .entry))) (now (table .entry)) ⌝ }
+{
+    let opened = open(file);
+    match opened {
+        Opened::Spool(contents) => {
+            *shop = contents.shop;
+            *table = contents.table;
+            contents.count as i64
+        }
+        Opened::Refused(refusal) => refused(refusal),
+    }
+}
+
+// A record as the 16 bytes that it has in a spool file.
+fn record_bytes(frame: FrameRecord) -> [u8; 16]
+    ensures { λ r. ⌜ r ≡ recordBytes frame ⌝ }
+{
+    let offset = four_bytes(frame.offset);
+    let width = two_bytes(frame.width);
+    let height = two_bytes(frame.height);
+    let copies = two_bytes(frame.copies);
+    let order = four_bytes(frame.order);
+    [
+        offset.a,
+        offset.b,
+        offset.c,
+        offset.d,
+        width.low,
+        width.high,
+        height.low,
+        height.high,
+        frame.kind,
+        frame.bits,
+        copies.low,
+        copies.high,
+        order.a,
+        order.b,
+        order.c,
+        order.d,
+    ]
+}
+
+// What is found, as C gets it: the length of the frame's pixels, and the record.
+fn found_as(found: Found, frame: &mut [u8; 16]) -> i64
+    ensures value { λ r. ⌜ r ≡ findAnswer (findSaid found) ⌝ }
+    ensures frame { λ _. ⌜ now (frame .exit) ≡ findRecord (findSaid found) ⌝ }
+{
+    match found {
+        Found::Frame(record) => {
+            *frame = record_bytes(record);
+            pixel_bytes(record) as i64
+        }
+        Found::Refused(refusal) => {
+            let none = FrameRecord {
+                offset: 0,
+                width: 0,
+                height: 0,
+                kind: 0,
+                bits: 0,
+                copies: 0,
+                order: 0,
+            };
+            *frame = record_bytes(none);
+            refused(refusal)
+        }
+    }
+}
+
+// Finds a frame: the length of its pixels, which start at the record's offset.
+#[no_mangle]
+pub extern "C" fn kiosk_find(file: &[u8], number: usize, frame: &mut [u8; 16]) -> i64
+    ensures value { λ r. ⌜ r ≡ findAnswer (findSays (now (file .entry)) number) ⌝ }
+    ensures frame { λ _. ⌜ now (frame .exit) ≡ findRecord (findSays (now (file .entry)) number) ⌝ }
+{
+    let found = find(file, number);
+    found_as(found, frame)
+}
+
+// One step of the walk over a spool's frames: finds frame `next`, and moves `next` on.
+#[no_mangle]
+pub extern "C" fn kiosk_step(file: &[u8], next: &mut usize, frame: &mut [u8; 16]) -> i64
+    ensures value { λ r. ⌜ r ≡ findAnswer (findSays (now (file .entry)) (now (next .entry))) ⌝ }
+    ensures frame { λ _. ⌜ now (frame .exit) ≡ findRecord (findSays (now (file .entry)) (now (next .entry))) ⌝ }
+    ensures next { λ _. ⌜ now (next .exit) ≡ nextNumber (now (file .entry)) (now (next .entry)) ⌝ }
+{
+    let visit = step_from(file, *next);
+    *next = visit.next;
+    let found = visit.found;
+    found_as(found, frame)
+}
+
+// Layout's pass over records, here over their bytes: C has no slice of structs to lend. No record of the count
+// is ever short, which the proof shows.
+fn pass(records: &[u8], dst: &mut [u8], start: Progress) -> Progress
+    ensures { λ r. ⌜ stateOf r (now (dst .exit)) ≡ walked (recordsIn (now (records .entry))) 0 (stateOf start (now (dst .entry))) ⌝ }
+{
+    let count = records.len() / RECORD_SIZE;
+    let mut progress = start;
+    let mut place = 0;
+    while place < count {
+        let at = RECORD_SIZE * place;
+        let read = read_record(records, at);
+        match read {
+            Read::Record(frame) => {
+                progress = visit(dst, progress, place, frame);
+            }
+            Read::Short => {
+                return progress;
+            }
+        }
+        place += 1;
+    }
+    progress
+}
+
+// Lays out a spool, by the same steps as `layout::lay_out`.
+fn laid_out(records: &[u8], shop: u16, dst: &mut [u8]) -> Answer
+    ensures answer { λ r. ⌜ said r ≡ layoutSays (recordsIn (now (records .entry))) (length (now (dst .entry))) ⌝ }
+    ensures bytes { λ _. ⌜ now (dst .exit) ≡ leaves (layoutSays (recordsIn (now (records .entry))) (length (now (dst .entry)))) (layoutBytes (recordsIn (now (records .entry))) shop (now (dst .entry))) (now (dst .entry)) ⌝ }
+{
+    let start = unchecked();
+    let checked = pass(records, dst, start);
+    let next = ready(checked, records.len() / RECORD_SIZE, shop, dst);
+    let ended = pass(records, dst, next);
+    let answer = ended.answer;
+    answer
+}
+
+// Lays out a spool of records that are given as their bytes, 16 each; bytes that make no whole record are
+// not looked at.
+#[no_mangle]
+pub extern "C" fn kiosk_lay_out(records: &[u8], shop: u16, dst: &mut [u8], place: &mut usize) -> i64
+    ensures value { λ r. ⌜ r ≡ answerOf (layoutSays (recordsIn (now (records .entry))) (length (now (dst .entry)))) ⌝ }
+    ensures bytes { λ _. ⌜ now (dst .exit) ≡ leaves (layoutSays (recordsIn (now (records .entry))) (length (now (dst .entry)))) (layoutBytes (recordsIn (now (records .entry))) shop (now (dst .entry))) (now (dst .entry)) ⌝ }
+    ensures at { λ _. ⌜ now (place .exit) ≡ placeOf (layoutSays (recordsIn (now (records .entry))) (length (now (dst .entry)))) (now (place .entry)) ⌝ }
+{
+    let answer = laid_out(records, shop, dst);
+    answered(answer, place)
+}

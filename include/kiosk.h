@@ -1,0 +1,129 @@
+/*
+ * kiosk.h: colour pictures and spool files for photo kiosks, from the proved library.
+ *
+ * Link with libkiosk.a, which `rt staticlib kiosk` writes to target/staticlib/. x86-64 Linux only.
+ *
+ * Answers. A function that returns int64_t gives a count of 0 or more, or minus the number of a
+ * refusal (enum kiosk_refusal). A refused call changes no destination.
+ *
+ * Buffers are a pointer and a length: bytes for uint8_t, numbers for int32_t. A destination has
+ * exactly the length needed, and overlaps no other argument. A buffer of length 0 still needs a
+ * pointer that is not null; it is not read.
+ *
+ * Pointers may not be null. `place` is written by the refusals that have a place, and otherwise
+ * keeps what it held.
+ *
+ * Pixels are three samples, row by row. A sample is one byte at 8 bits, else two, the low byte
+ * first. Depths offered are 10, 12 and 16, for linear light 10 and 12; any number may be asked for.
+ */
+#ifndef KIOSK_H
+#define KIOSK_H
+
+#include <stddef.h>
+#include <stdint.h>
+
+#ifdef __cplusplus
+extern "C" {
+#endif
+
+/* Why an operation refuses. The functions return minus this number. */
+enum kiosk_refusal {
+    KIOSK_TOO_SHORT = 1,          /* a spool shorter than its header */
+    KIOSK_WRONG_LENGTH = 2,       /* the length in the header is not the file's */
+    KIOSK_TOO_MANY_FRAMES = 3,    /* more than 255 frames */
+    KIOSK_TABLE_OUTSIDE = 4,      /* the record table is not inside the file behind the header */
+    KIOSK_NO_SUCH_FRAME = 5,      /* no frame has this number */
+    KIOSK_UNKNOWN_KIND = 6,       /* kind and bits are no pair that a picture has */
+    KIOSK_WRONG_SIZE = 7,         /* a width or height of 0 or above 8,192 */
+    KIOSK_PIXELS_OUTSIDE = 8,     /* the pixels are not inside the file behind the header */
+    KIOSK_DEPTH_NOT_OFFERED = 9,  /* a depth that is not offered */
+    KIOSK_NOT_WHOLE_PIXELS = 10,  /* the source is not a whole number of pixels */
+    KIOSK_WRONG_ROOM = 11,        /* the destination has not exactly the length needed */
+    KIOSK_SAMPLE_TOO_GREAT = 12,  /* a sample above the greatest of its depth; place: its byte offset */
+    KIOSK_CHROMA_ZERO = 13,       /* a chroma of code 0; place: its byte offset */
+    KIOSK_TOTAL_TOO_LONG = 14,    /* a spool longer than 4,294,967,295 bytes */
+    KIOSK_INPUT_TOO_LONG = 15     /* more input than the listing program takes; no function gives it */
+};
+
+/* What a frame's pixels are. */
+enum kiosk_kind {
+    KIOSK_SRGB = 1,       /* 8 bits */
+    KIOSK_ESRGB = 2,      /* 10, 12 or 16 bits */
+    KIOSK_LUMA_CHROMA = 3 /* 10, 12 or 16 bits: luma, blue chroma, red chroma */
+};
+
+/* A frame's record, with the 16 bytes that it has in a spool file: the machine is little-endian. */
+struct kiosk_record {
+    uint32_t offset; /* of the frame's pixels, from the start of the file */
+    uint16_t width;
+    uint16_t height;
+    uint8_t kind;
+    uint8_t bits;
+    uint16_t copies;
+    uint32_t order;
+};
+
+/* ---- Pictures. Each gives the pixel count, or refuses with 9, 10, 11, 12 or 13. ---- */
+
+/* Converts 8-bit sRGB to e-sRGB of the given depth. */
+int64_t kiosk_from_srgb(uint32_t depth, const uint8_t *src, size_t src_len,
+                        uint8_t *dst, size_t dst_len, size_t *place);
+
+/* Converts e-sRGB of the given depth to 8-bit sRGB, clipping what 8 bits do not hold. */
+int64_t kiosk_to_srgb(uint32_t depth, const uint8_t *src, size_t src_len,
+                      uint8_t *dst, size_t dst_len, size_t *place);
+
+/* Converts e-sRGB of depth `from` to depth `to`. Equal depths copy. */
+int64_t kiosk_change_depth(uint32_t from, uint32_t to, const uint8_t *src, size_t src_len,
+                           uint8_t *dst, size_t dst_len, size_t *place);
+
+/* Converts e-sRGB to luma and chroma of the same depth. */
+int64_t kiosk_to_luma_chroma(uint32_t depth, const uint8_t *src, size_t src_len,
+                             uint8_t *dst, size_t dst_len, size_t *place);
+
+/* Converts luma and chroma back to e-sRGB of the same depth. Chroma of code 0 is refused with 13. */
+int64_t kiosk_from_luma_chroma(uint32_t depth, const uint8_t *src, size_t src_len,
+                               uint8_t *dst, size_t dst_len, size_t *place);
+
+/* Converts e-sRGB to luma and chroma in `sheet`, and `sheet` back to e-sRGB in `back`. Returns the
+ * first conversion's answer; *again gets the second's, and each has a place of its own. */
+int64_t kiosk_round_trip(uint32_t depth, const uint8_t *codes, size_t codes_len,
+                         uint8_t *sheet, size_t sheet_len, uint8_t *back, size_t back_len,
+                         size_t *place, int64_t *again, size_t *again_place);
+
+/* ---- Linear light, in signed millionths of reference white. Each gives the pixel count. ---- */
+
+/* Converts e-sRGB codes to light: dst_len counts numbers. Refuses with 9, 10, 11 or 12. */
+int64_t kiosk_code_to_light(uint32_t depth, const uint8_t *src, size_t src_len,
+                            int32_t *dst, size_t dst_len, size_t *place);
+
+/* Converts light to e-sRGB codes, clipping: src_len counts numbers. Refuses with 9, 10 or 11. */
+int64_t kiosk_light_to_code(uint32_t depth, const int32_t *src, size_t src_len,
+                            uint8_t *dst, size_t dst_len);
+
+/* ---- Spool files ---- */
+
+/* Opens a spool: gives the frame count, and *shop and *table (the offset of the record table). Refuses
+ * with 1 to 4, and then both keep what they held. */
+int64_t kiosk_open(const uint8_t *file, size_t file_len, uint16_t *shop, uint32_t *table);
+
+/* Finds frame `number`, from 0: gives the length in bytes of its pixels, which start at file +
+ * record->offset. Refuses with 1 to 8, and then the record is all zeros. */
+int64_t kiosk_find(const uint8_t *file, size_t file_len, size_t number, struct kiosk_record *record);
+
+/* One step of a walk over the frames: finds frame *next as kiosk_find does. *next is 0 at first; it
+ * grows by one at each frame, also at one refused with 6 to 8, and stays after 1 to 5. */
+int64_t kiosk_step(const uint8_t *file, size_t file_len, size_t *next, struct kiosk_record *record);
+
+/* Lays out a spool in dst: writes the header and the record table, with the pixels of the frames one
+ * after another behind it, and leaves the pixel bytes as found. The records' own offsets are ignored;
+ * records_len counts bytes, 16 to a record, and bytes that make no whole record are not looked at. Gives
+ * the total length. Refuses with 3, with 6 or 7, whose place is the number of the record, with 14 or 11. */
+int64_t kiosk_lay_out(const struct kiosk_record *records, size_t records_len, uint16_t shop,
+                      uint8_t *dst, size_t dst_len, size_t *place);
+
+#ifdef __cplusplus
+}
+#endif
+
+#endif

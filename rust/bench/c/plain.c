@@ -1,0 +1,235 @@
+/*
+ * The operations in plain C, as a careful programmer would write them, to compare speed with: the same
+ * answers and bytes as the proved library, every sample checked before a byte is written.
+ */
+#include <stddef.h>
+#include <stdint.h>
+
+enum { NOT_OFFERED = -9, NOT_WHOLE = -10, WRONG_ROOM = -11, TOO_GREAT = -12, CHROMA_ZERO = -13 };
+
+static int offered(uint32_t depth)
+{
+    return depth == 10 || depth == 12 || depth == 16;
+}
+
+static uint32_t sample(const uint8_t *bytes, size_t k)
+{
+    return (uint32_t)bytes[2 * k] | (uint32_t)bytes[2 * k + 1] << 8;
+}
+
+static void put(uint8_t *bytes, size_t k, uint32_t value)
+{
+    bytes[2 * k] = (uint8_t)value;
+    bytes[2 * k + 1] = (uint8_t)(value >> 8);
+}
+
+/* The first sample above the greatest of its depth. At 16 bits there is none. */
+static int64_t check_codes(uint32_t depth, const uint8_t *src, size_t samples, size_t *place)
+{
+    uint32_t greatest = (1u << depth) - 1;
+    if (depth == 16)
+        return 0;
+    for (size_t k = 0; k < samples; k++) {
+        if (sample(src, k) > greatest) {
+            *place = 2 * k;
+            return TOO_GREAT;
+        }
+    }
+    return 0;
+}
+
+/* The same of luma and chroma, where a chroma of 0 is at fault too. */
+static int64_t check_sheet(uint32_t depth, const uint8_t *src, size_t samples, size_t *place)
+{
+    uint32_t greatest = (1u << depth) - 1;
+    for (size_t k = 0; k < samples; k += 3) {
+        for (size_t j = k; j < k + 3; j++) {
+            uint32_t x = sample(src, j);
+            if (x > greatest || (j != k && x == 0)) {
+                *place = 2 * j;
+                return x == 0 ? CHROMA_ZERO : TOO_GREAT;
+            }
+        }
+    }
+    return 0;
+}
+
+int64_t plain_from_srgb(uint32_t depth, const uint8_t *src, size_t src_len, uint8_t *dst,
+                        size_t dst_len, size_t *place)
+{
+    (void)place;
+    if (!offered(depth))
+        return NOT_OFFERED;
+    if (src_len % 3 != 0)
+        return NOT_WHOLE;
+    if (dst_len != 2 * src_len)
+        return WRONG_ROOM;
+    uint32_t step = 1u << (depth - 9), offset = (1u << (depth - 2)) + (1u << (depth - 3));
+    for (size_t k = 0; k < src_len; k++)
+        put(dst, k, step * src[k] + offset);
+    return (int64_t)(src_len / 3);
+}
+
+int64_t plain_to_srgb(uint32_t depth, const uint8_t *src, size_t src_len, uint8_t *dst,
+                      size_t dst_len, size_t *place)
+{
+    if (!offered(depth))
+        return NOT_OFFERED;
+    if (src_len % 6 != 0)
+        return NOT_WHOLE;
+    if (dst_len != src_len / 2)
+        return WRONG_ROOM;
+    int64_t fault = check_codes(depth, src, dst_len, place);
+    if (fault < 0)
+        return fault;
+    int32_t shift = (int32_t)depth - 9, half = 1 << (shift - 1);
+    int32_t offset = (1 << (depth - 2)) + (1 << (depth - 3));
+    for (size_t k = 0; k < dst_len; k++) {
+        int32_t level = (int32_t)sample(src, k) - offset;
+        int32_t a = level < 0 ? 0 : (level + half) >> shift;
+        dst[k] = (uint8_t)(a > 255 ? 255 : a);
+    }
+    return (int64_t)(src_len / 6);
+}
+
+int64_t plain_change_depth(uint32_t from, uint32_t to, const uint8_t *src, size_t src_len,
+                           uint8_t *dst, size_t dst_len, size_t *place)
+{
+    if (!offered(from) || !offered(to))
+        return NOT_OFFERED;
+    if (src_len % 6 != 0)
+        return NOT_WHOLE;
+    if (dst_len != src_len)
+        return WRONG_ROOM;
+    int64_t fault = check_codes(from, src, src_len / 2, place);
+    if (fault < 0)
+        return fault;
+    if (to >= from) {
+        for (size_t k = 0; k < src_len / 2; k++)
+            put(dst, k, sample(src, k) << (to - from));
+    } else {
+        for (size_t k = 0; k < src_len / 2; k++)
+            put(dst, k, sample(src, k) >> (from - to));
+    }
+    return (int64_t)(src_len / 6);
+}
+
+/* To the nearest, ties towards zero, for an even denominator. */
+static int32_t nearest_low(int32_t num, int32_t den)
+{
+    int32_t magnitude = ((num < 0 ? -num : num) + den / 2 - 1) / den;
+    return num < 0 ? -magnitude : magnitude;
+}
+
+int64_t plain_to_luma_chroma(uint32_t depth, const uint8_t *src, size_t src_len, uint8_t *dst,
+                             size_t dst_len, size_t *place)
+{
+    if (!offered(depth))
+        return NOT_OFFERED;
+    if (src_len % 6 != 0)
+        return NOT_WHOLE;
+    if (dst_len != src_len)
+        return WRONG_ROOM;
+    int64_t fault = check_codes(depth, src, src_len / 2, place);
+    if (fault < 0)
+        return fault;
+    int32_t middle = 1 << (depth - 1);
+    for (size_t k = 0; k < src_len / 2; k += 3) {
+        int32_t r = (int32_t)sample(src, k), g = (int32_t)sample(src, k + 1);
+        int32_t b = (int32_t)sample(src, k + 2);
+        put(dst, k, (uint32_t)(299 * r + 587 * g + 114 * b + 500) / 1000);
+        put(dst, k + 1, (uint32_t)(nearest_low(-299 * r - 587 * g + 886 * b, 1772) + middle));
+        put(dst, k + 2, (uint32_t)(nearest_low(701 * r - 587 * g - 114 * b, 1402) + middle));
+    }
+    return (int64_t)(src_len / 6);
+}
+
+/* To the nearest, ties upward, clipped to a code. A quotient below 0 is clipped to 0. */
+static uint32_t code_of(int64_t num, int64_t den, uint32_t greatest)
+{
+    int64_t code = num < 0 ? 0 : (num + den / 2) / den;
+    return code > greatest ? greatest : (uint32_t)code;
+}
+
+int64_t plain_from_luma_chroma(uint32_t depth, const uint8_t *src, size_t src_len, uint8_t *dst,
+                               size_t dst_len, size_t *place)
+{
+    if (!offered(depth))
+        return NOT_OFFERED;
+    if (src_len % 6 != 0)
+        return NOT_WHOLE;
+    if (dst_len != src_len)
+        return WRONG_ROOM;
+    int64_t fault = check_sheet(depth, src, src_len / 2, place);
+    if (fault < 0)
+        return fault;
+    int64_t middle = 1 << (depth - 1);
+    uint32_t greatest = (1u << depth) - 1;
+    for (size_t k = 0; k < src_len / 2; k += 3) {
+        int64_t y = sample(src, k);
+        int64_t cb = (int64_t)sample(src, k + 1) - middle, cr = (int64_t)sample(src, k + 2) - middle;
+        put(dst, k, code_of(1000 * y + 1402 * cr, 1000, greatest));
+        put(dst, k + 1, code_of(587000 * y - (202008 * cb + 419198 * cr), 587000, greatest));
+        put(dst, k + 2, code_of(1000 * y + 1772 * cb, 1000, greatest));
+    }
+    return (int64_t)(src_len / 6);
+}
+
+/* Light of each 12-bit level, and the least light of each level of a depth. */
+static uint32_t lights[2560];
+static uint32_t thresholds10[640], thresholds12[2560];
+
+void plain_set_tables(const uint32_t *light, const uint32_t *ten, const uint32_t *twelve)
+{
+    for (size_t i = 0; i < 2560; i++)
+        lights[i] = light[i];
+    for (size_t i = 0; i < 640; i++)
+        thresholds10[i] = ten[i];
+    for (size_t i = 0; i < 2560; i++)
+        thresholds12[i] = twelve[i];
+}
+
+int64_t plain_code_to_light(uint32_t depth, const uint8_t *src, size_t src_len, int32_t *dst,
+                            size_t dst_len, size_t *place)
+{
+    if (depth != 10 && depth != 12)
+        return NOT_OFFERED;
+    if (src_len % 6 != 0)
+        return NOT_WHOLE;
+    if (dst_len != src_len / 2)
+        return WRONG_ROOM;
+    int64_t fault = check_codes(depth, src, dst_len, place);
+    if (fault < 0)
+        return fault;
+    for (size_t k = 0; k < dst_len; k++) {
+        int32_t level = (int32_t)(sample(src, k) << (12 - depth)) - 1536;
+        dst[k] = level < 0 ? -(int32_t)lights[-level] : (int32_t)lights[level];
+    }
+    return (int64_t)(src_len / 6);
+}
+
+int64_t plain_light_to_code(uint32_t depth, const int32_t *src, size_t src_len, uint8_t *dst,
+                            size_t dst_len)
+{
+    if (depth != 10 && depth != 12)
+        return NOT_OFFERED;
+    if (src_len % 3 != 0)
+        return NOT_WHOLE;
+    if (dst_len != 2 * src_len)
+        return WRONG_ROOM;
+    const uint32_t *thresholds = depth == 10 ? thresholds10 : thresholds12;
+    uint32_t levels = depth == 10 ? 640 : 2560, offset = depth == 10 ? 384 : 1536;
+    for (size_t k = 0; k < src_len; k++) {
+        uint32_t q = src[k] < 0 ? 0u - (uint32_t)src[k] : (uint32_t)src[k];
+        uint32_t low = 0, high = levels;
+        while (high - low > 1) {
+            uint32_t middle = low + (high - low) / 2;
+            if (thresholds[middle] <= q)
+                low = middle;
+            else
+                high = middle;
+        }
+        put(dst, k, src[k] >= 0 ? offset + low : low < offset ? offset - low : 0);
+    }
+    return (int64_t)(src_len / 3);
+}

@@ -1,0 +1,117 @@
+//! The plain C version, which c/plain.c has: the only `unsafe` code of this crate.
+
+#![allow(unsafe_code)]
+
+use kiosk::Conversion;
+
+mod c {
+    extern "C" {
+        pub fn plain_from_srgb(
+            depth: u32,
+            src: *const u8,
+            src_len: usize,
+            dst: *mut u8,
+            dst_len: usize,
+            place: *mut usize,
+        ) -> i64;
+        pub fn plain_to_srgb(
+            depth: u32,
+            src: *const u8,
+            src_len: usize,
+            dst: *mut u8,
+            dst_len: usize,
+            place: *mut usize,
+        ) -> i64;
+        pub fn plain_change_depth(
+            from: u32,
+            to: u32,
+            src: *const u8,
+            src_len: usize,
+            dst: *mut u8,
+            dst_len: usize,
+            place: *mut usize,
+        ) -> i64;
+        pub fn plain_to_luma_chroma(
+            depth: u32,
+            src: *const u8,
+            src_len: usize,
+            dst: *mut u8,
+            dst_len: usize,
+            place: *mut usize,
+        ) -> i64;
+        pub fn plain_from_luma_chroma(
+            depth: u32,
+            src: *const u8,
+            src_len: usize,
+            dst: *mut u8,
+            dst_len: usize,
+            place: *mut usize,
+        ) -> i64;
+        pub fn plain_set_tables(light: *const u32, ten: *const u32, twelve: *const u32);
+        pub fn plain_code_to_light(
+            depth: u32,
+            src: *const u8,
+            src_len: usize,
+            dst: *mut i32,
+            dst_len: usize,
+            place: *mut usize,
+        ) -> i64;
+        pub fn plain_light_to_code(
+            depth: u32,
+            src: *const i32,
+            src_len: usize,
+            dst: *mut u8,
+            dst_len: usize,
+        ) -> i64;
+    }
+}
+
+/// Convert in plain C.
+pub fn convert(conversion: Conversion, src: &[u8], dst: &mut [u8]) -> i64 {
+    let mut place = 0;
+    let (s, n, d, m) = (src.as_ptr(), src.len(), dst.as_mut_ptr(), dst.len());
+    // SAFETY: the pointers and lengths are those of two slices that do not overlap, and of a local.
+    unsafe {
+        match conversion {
+            Conversion::FromSrgb { depth } => c::plain_from_srgb(depth, s, n, d, m, &mut place),
+            Conversion::ToSrgb { depth } => c::plain_to_srgb(depth, s, n, d, m, &mut place),
+            Conversion::ChangeDepth { from, to } => {
+                c::plain_change_depth(from, to, s, n, d, m, &mut place)
+            }
+            Conversion::ToLumaChroma { depth } => {
+                c::plain_to_luma_chroma(depth, s, n, d, m, &mut place)
+            }
+            Conversion::FromLumaChroma { depth } => {
+                c::plain_from_luma_chroma(depth, s, n, d, m, &mut place)
+            }
+        }
+    }
+}
+
+/// Gives plain C its tables: the light of each 12-bit level, and the least light of each level at 10 and 12 bits.
+pub fn set_tables(light: &[u32; 2560], ten: &[u32; 640], twelve: &[u32; 2560]) {
+    // SAFETY: the arrays have the lengths that c/plain.c copies, and nothing else runs meanwhile.
+    unsafe { c::plain_set_tables(light.as_ptr(), ten.as_ptr(), twelve.as_ptr()) }
+}
+
+/// Codes to light in plain C.
+pub fn code_to_light(depth: u32, src: &[u8], dst: &mut [i32]) -> i64 {
+    let mut place = 0;
+    // SAFETY: as of `convert`.
+    unsafe {
+        c::plain_code_to_light(
+            depth,
+            src.as_ptr(),
+            src.len(),
+            dst.as_mut_ptr(),
+            dst.len(),
+            &mut place,
+        )
+    }
+}
+
+/// Light to codes in plain C.
+pub fn light_to_code(depth: u32, src: &[i32], dst: &mut [u8]) -> i64 {
+    // SAFETY: as of `convert`.
+    unsafe { c::plain_light_to_code(depth, src.as_ptr(), src.len(), dst.as_mut_ptr(), dst.len()) }
+}

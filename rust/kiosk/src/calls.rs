@@ -1,0 +1,262 @@
+//! The calls of the proved library, and the only `unsafe` code of this crate. Each function here is safe:
+//! it takes slices and references, and what it hands on is what include/kiosk.h asks for.
+
+#![allow(unsafe_code)]
+
+use crate::Record;
+
+mod c {
+    use crate::Record;
+
+    /// A conversion that names one depth.
+    pub type Convert =
+        unsafe extern "C" fn(u32, *const u8, usize, *mut u8, usize, *mut usize) -> i64;
+
+    // As in include/kiosk.h.
+    extern "C" {
+        pub fn kiosk_from_srgb(
+            depth: u32,
+            src: *const u8,
+            src_len: usize,
+            dst: *mut u8,
+            dst_len: usize,
+            place: *mut usize,
+        ) -> i64;
+        pub fn kiosk_to_srgb(
+            depth: u32,
+            src: *const u8,
+            src_len: usize,
+            dst: *mut u8,
+            dst_len: usize,
+            place: *mut usize,
+        ) -> i64;
+        pub fn kiosk_change_depth(
+            from: u32,
+            to: u32,
+            src: *const u8,
+            src_len: usize,
+            dst: *mut u8,
+            dst_len: usize,
+            place: *mut usize,
+        ) -> i64;
+        pub fn kiosk_to_luma_chroma(
+            depth: u32,
+            src: *const u8,
+            src_len: usize,
+            dst: *mut u8,
+            dst_len: usize,
+            place: *mut usize,
+        ) -> i64;
+        pub fn kiosk_from_luma_chroma(
+            depth: u32,
+            src: *const u8,
+            src_len: usize,
+            dst: *mut u8,
+            dst_len: usize,
+            place: *mut usize,
+        ) -> i64;
+        pub fn kiosk_round_trip(
+            depth: u32,
+            codes: *const u8,
+            codes_len: usize,
+            sheet: *mut u8,
+            sheet_len: usize,
+            back: *mut u8,
+            back_len: usize,
+            place: *mut usize,
+            again: *mut i64,
+            again_place: *mut usize,
+        ) -> i64;
+        pub fn kiosk_code_to_light(
+            depth: u32,
+            src: *const u8,
+            src_len: usize,
+            dst: *mut i32,
+            dst_len: usize,
+            place: *mut usize,
+        ) -> i64;
+        pub fn kiosk_light_to_code(
+            depth: u32,
+            src: *const i32,
+            src_len: usize,
+            dst: *mut u8,
+            dst_len: usize,
+        ) -> i64;
+        pub fn kiosk_open(file: *const u8, file_len: usize, shop: *mut u16, table: *mut u32)
+            -> i64;
+        pub fn kiosk_find(
+            file: *const u8,
+            file_len: usize,
+            number: usize,
+            record: *mut Record,
+        ) -> i64;
+        pub fn kiosk_step(
+            file: *const u8,
+            file_len: usize,
+            next: *mut usize,
+            record: *mut Record,
+        ) -> i64;
+        pub fn kiosk_lay_out(
+            records: *const Record,
+            records_len: usize,
+            shop: u16,
+            dst: *mut u8,
+            dst_len: usize,
+            place: *mut usize,
+        ) -> i64;
+    }
+}
+
+/// What a call gives: its answer, and the place if it wrote one.
+pub struct Given {
+    pub answer: i64,
+    pub place: Option<usize>,
+}
+
+/// No place is this great: a slice has fewer bytes.
+const UNWRITTEN: usize = usize::MAX;
+
+fn given(answer: i64, place: usize) -> Given {
+    Given {
+        answer,
+        place: (place != UNWRITTEN).then_some(place),
+    }
+}
+
+fn convert(call: c::Convert, depth: u32, src: &[u8], dst: &mut [u8]) -> Given {
+    let mut place = UNWRITTEN;
+    // SAFETY: the pointers and lengths are those of two slices that do not overlap, and of a local.
+    let answer = unsafe {
+        call(
+            depth,
+            src.as_ptr(),
+            src.len(),
+            dst.as_mut_ptr(),
+            dst.len(),
+            &mut place,
+        )
+    };
+    given(answer, place)
+}
+
+pub fn from_srgb(depth: u32, src: &[u8], dst: &mut [u8]) -> Given {
+    convert(c::kiosk_from_srgb, depth, src, dst)
+}
+
+pub fn to_srgb(depth: u32, src: &[u8], dst: &mut [u8]) -> Given {
+    convert(c::kiosk_to_srgb, depth, src, dst)
+}
+
+pub fn change_depth(from: u32, to: u32, src: &[u8], dst: &mut [u8]) -> Given {
+    let mut place = UNWRITTEN;
+    // SAFETY: as of `convert`.
+    let answer = unsafe {
+        c::kiosk_change_depth(
+            from,
+            to,
+            src.as_ptr(),
+            src.len(),
+            dst.as_mut_ptr(),
+            dst.len(),
+            &mut place,
+        )
+    };
+    given(answer, place)
+}
+
+pub fn to_luma_chroma(depth: u32, src: &[u8], dst: &mut [u8]) -> Given {
+    convert(c::kiosk_to_luma_chroma, depth, src, dst)
+}
+
+pub fn from_luma_chroma(depth: u32, src: &[u8], dst: &mut [u8]) -> Given {
+    convert(c::kiosk_from_luma_chroma, depth, src, dst)
+}
+
+/// What the two conversions of a round trip give.
+pub fn round_trip(depth: u32, codes: &[u8], sheet: &mut [u8], back: &mut [u8]) -> (Given, Given) {
+    let mut place = UNWRITTEN;
+    let mut again = 0;
+    let mut again_place = UNWRITTEN;
+    // SAFETY: the pointers and lengths are those of three slices that do not overlap, and of locals.
+    let answer = unsafe {
+        c::kiosk_round_trip(
+            depth,
+            codes.as_ptr(),
+            codes.len(),
+            sheet.as_mut_ptr(),
+            sheet.len(),
+            back.as_mut_ptr(),
+            back.len(),
+            &mut place,
+            &mut again,
+            &mut again_place,
+        )
+    };
+    (given(answer, place), given(again, again_place))
+}
+
+pub fn code_to_light(depth: u32, src: &[u8], dst: &mut [i32]) -> Given {
+    let mut place = UNWRITTEN;
+    // SAFETY: as of `convert`; the destination's length counts numbers.
+    let answer = unsafe {
+        c::kiosk_code_to_light(
+            depth,
+            src.as_ptr(),
+            src.len(),
+            dst.as_mut_ptr(),
+            dst.len(),
+            &mut place,
+        )
+    };
+    given(answer, place)
+}
+
+pub fn light_to_code(depth: u32, src: &[i32], dst: &mut [u8]) -> Given {
+    // SAFETY: the pointers and lengths are those of two slices that do not overlap; the source's length
+    // counts numbers.
+    let answer = unsafe {
+        c::kiosk_light_to_code(depth, src.as_ptr(), src.len(), dst.as_mut_ptr(), dst.len())
+    };
+    given(answer, UNWRITTEN)
+}
+
+/// The frame count or a refusal, the shop and the table offset.
+pub fn open(file: &[u8]) -> (i64, u16, u32) {
+    let (mut shop, mut table) = (0, 0);
+    // SAFETY: the pointer and length are those of a slice, and the others those of locals.
+    let answer = unsafe { c::kiosk_open(file.as_ptr(), file.len(), &mut shop, &mut table) };
+    (answer, shop, table)
+}
+
+/// The length of a frame's pixels or a refusal, and the record.
+pub fn find(file: &[u8], number: usize) -> (i64, Record) {
+    let mut record = Record::default();
+    // SAFETY: the pointer and length are those of a slice; a record is 16 bytes, and any bytes are one.
+    let answer = unsafe { c::kiosk_find(file.as_ptr(), file.len(), number, &mut record) };
+    (answer, record)
+}
+
+/// As `find`, and moves the number on.
+pub fn step(file: &[u8], next: &mut usize) -> (i64, Record) {
+    let mut record = Record::default();
+    // SAFETY: as of `find`.
+    let answer = unsafe { c::kiosk_step(file.as_ptr(), file.len(), next, &mut record) };
+    (answer, record)
+}
+
+pub fn lay_out(records: &[Record], shop: u16, dst: &mut [u8]) -> Given {
+    let mut place = UNWRITTEN;
+    // SAFETY: a record is 16 bytes with no padding, so the records' bytes are those of the slice; it does
+    // not overlap the destination.
+    let answer = unsafe {
+        c::kiosk_lay_out(
+            records.as_ptr(),
+            size_of_val(records),
+            shop,
+            dst.as_mut_ptr(),
+            dst.len(),
+            &mut place,
+        )
+    };
+    given(answer, place)
+}

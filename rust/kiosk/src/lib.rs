@@ -1,0 +1,165 @@
+//! Colour pictures and spool files for photo kiosks: a safe wrapper of the proved library. Buffers are
+//! slices, an answer is a `Result`, and a refused call leaves its destination as it was.
+
+#![deny(unsafe_code)]
+
+mod calls;
+mod refusal;
+
+use calls::Given;
+pub use refusal::{Fault, Refusal};
+
+/// The conversions. A depth may be any number; 10, 12 and 16 are offered.
+#[derive(Clone, Copy, Debug, PartialEq, Eq)]
+pub enum Conversion {
+    /// 8-bit sRGB to e-sRGB.
+    FromSrgb { depth: u32 },
+    /// E-sRGB to 8-bit sRGB.
+    ToSrgb { depth: u32 },
+    /// E-sRGB of one depth to another.
+    ChangeDepth { from: u32, to: u32 },
+    /// E-sRGB to luma and chroma.
+    ToLumaChroma { depth: u32 },
+    /// Luma and chroma to e-sRGB.
+    FromLumaChroma { depth: u32 },
+}
+
+impl Conversion {
+    /// The bytes that a destination needs for a source of `bytes` bytes: two-byte samples but for sRGB.
+    pub fn needed(self, bytes: usize) -> usize {
+        match self {
+            Conversion::FromSrgb { .. } => bytes.saturating_mul(2),
+            Conversion::ToSrgb { .. } => bytes / 2,
+            _ => bytes,
+        }
+    }
+}
+
+fn counted(given: Given) -> Result<usize, Refusal> {
+    refusal::judge(given.answer, given.place)
+}
+
+/// Converts the picture `src` into `dst` and gives its pixel count.
+pub fn convert(conversion: Conversion, src: &[u8], dst: &mut [u8]) -> Result<usize, Refusal> {
+    counted(match conversion {
+        Conversion::FromSrgb { depth } => calls::from_srgb(depth, src, dst),
+        Conversion::ToSrgb { depth } => calls::to_srgb(depth, src, dst),
+        Conversion::ChangeDepth { from, to } => calls::change_depth(from, to, src, dst),
+        Conversion::ToLumaChroma { depth } => calls::to_luma_chroma(depth, src, dst),
+        Conversion::FromLumaChroma { depth } => calls::from_luma_chroma(depth, src, dst),
+    })
+}
+
+/// What the two conversions of a round trip give.
+#[derive(Clone, Copy, Debug, PartialEq, Eq)]
+pub struct RoundTrip {
+    pub there: Result<usize, Refusal>,
+    pub again: Result<usize, Refusal>,
+}
+
+/// Converts e-sRGB codes to luma and chroma in `sheet`, and `sheet` back to codes in `back`.
+pub fn round_trip(depth: u32, codes: &[u8], sheet: &mut [u8], back: &mut [u8]) -> RoundTrip {
+    let (there, again) = calls::round_trip(depth, codes, sheet, back);
+    RoundTrip {
+        there: counted(there),
+        again: counted(again),
+    }
+}
+
+/// Converts e-sRGB codes of 10 or 12 bits to linear light, in signed millionths of reference white, and
+/// gives the pixel count.
+pub fn code_to_light(depth: u32, src: &[u8], dst: &mut [i32]) -> Result<usize, Refusal> {
+    counted(calls::code_to_light(depth, src, dst))
+}
+
+/// Converts linear light to e-sRGB codes of 10 or 12 bits, clipping, and gives the pixel count.
+pub fn light_to_code(depth: u32, src: &[i32], dst: &mut [u8]) -> Result<usize, Refusal> {
+    counted(calls::light_to_code(depth, src, dst))
+}
+
+/// A frame's record, with the layout that it has in a spool file.
+#[repr(C)]
+#[derive(Clone, Copy, Debug, Default, PartialEq, Eq)]
+pub struct Record {
+    /// Where the frame's pixels start in the file.
+    pub offset: u32,
+    pub width: u16,
+    pub height: u16,
+    /// 1 sRGB, 2 e-sRGB, 3 luma and chroma.
+    pub kind: u8,
+    pub bits: u8,
+    pub copies: u16,
+    pub order: u32,
+}
+
+// The library writes a record as 16 bytes, the low byte of each number first.
+const _: () = assert!(size_of::<Record>() == 16 && cfg!(target_endian = "little"));
+
+/// What an open spool holds.
+#[derive(Clone, Copy, Debug, PartialEq, Eq)]
+pub struct Contents {
+    pub count: usize,
+    pub shop: u16,
+    /// Where the record table starts.
+    pub table: u32,
+}
+
+/// Opens a spool file.
+pub fn open(file: &[u8]) -> Result<Contents, Refusal> {
+    let (answer, shop, table) = calls::open(file);
+    let count = refusal::judge(answer, None)?;
+    Ok(Contents { count, shop, table })
+}
+
+/// A frame: its record, and its pixels in the lent file.
+#[derive(Clone, Copy, Debug, PartialEq, Eq)]
+pub struct Frame<'a> {
+    pub record: Record,
+    pub pixels: &'a [u8],
+}
+
+fn frame_in(file: &[u8], answer: i64, record: Record) -> Result<Frame<'_>, Refusal> {
+    let length = refusal::judge(answer, None)?;
+    let start = record.offset as usize;
+    // The library has seen that the pixels are inside the file.
+    let pixels = &file[start..start + length];
+    Ok(Frame { record, pixels })
+}
+
+/// Finds a frame of a spool file. Frames count from 0.
+pub fn find(file: &[u8], number: usize) -> Result<Frame<'_>, Refusal> {
+    let (answer, record) = calls::find(file, number);
+    frame_in(file, answer, record)
+}
+
+/// The frames of a spool file one after another.
+#[derive(Clone, Copy, Debug)]
+pub struct Frames<'a> {
+    file: &'a [u8],
+    next: usize,
+}
+
+impl<'a> Frames<'a> {
+    pub fn new(file: &'a [u8]) -> Self {
+        Frames { file, next: 0 }
+    }
+
+    /// The number of the next frame.
+    pub fn number(&self) -> usize {
+        self.next
+    }
+
+    /// The next frame. A frame refused by itself (6 to 8) is passed; a file that does not open, and the end
+    /// of its frames, are stayed at.
+    pub fn step(&mut self) -> Result<Frame<'a>, Refusal> {
+        let (answer, record) = calls::step(self.file, &mut self.next);
+        frame_in(self.file, answer, record)
+    }
+}
+
+/// Lays out a spool in `dst` and gives its total length: the header and the record table are written, the
+/// pixels are placed behind them in the records' order, and the pixel bytes stay as found. The records'
+/// own offsets are ignored.
+pub fn lay_out(records: &[Record], shop: u16, dst: &mut [u8]) -> Result<usize, Refusal> {
+    counted(calls::lay_out(records, shop, dst))
+}

@@ -1,0 +1,133 @@
+//! Refusals in words, with their numbers.
+
+use std::error::Error;
+use std::fmt;
+
+/// Why an operation refuses, in the order of document 01's numbers.
+#[derive(Clone, Copy, Debug, PartialEq, Eq, PartialOrd, Ord)]
+pub enum Fault {
+    TooShort = 1,
+    WrongLength,
+    TooManyFrames,
+    TableOutside,
+    NoSuchFrame,
+    UnknownKind,
+    WrongSize,
+    PixelsOutside,
+    DepthNotOffered,
+    NotWholePixels,
+    WrongRoom,
+    SampleTooGreat,
+    ChromaZero,
+    TotalTooLong,
+    InputTooLong,
+}
+
+impl Fault {
+    /// All faults, each at its number less one.
+    pub const ALL: [Fault; 15] = [
+        Fault::TooShort,
+        Fault::WrongLength,
+        Fault::TooManyFrames,
+        Fault::TableOutside,
+        Fault::NoSuchFrame,
+        Fault::UnknownKind,
+        Fault::WrongSize,
+        Fault::PixelsOutside,
+        Fault::DepthNotOffered,
+        Fault::NotWholePixels,
+        Fault::WrongRoom,
+        Fault::SampleTooGreat,
+        Fault::ChromaZero,
+        Fault::TotalTooLong,
+        Fault::InputTooLong,
+    ];
+
+    /// Document 01's number.
+    pub fn number(self) -> u8 {
+        self as u8
+    }
+
+    fn words(self) -> &'static str {
+        match self {
+            Fault::TooShort => "the spool is shorter than its header",
+            Fault::WrongLength => "the length in the header is not the file's",
+            Fault::TooManyFrames => "a spool has at most 255 frames",
+            Fault::TableOutside => "the record table is not inside the file behind the header",
+            Fault::NoSuchFrame => "no frame has this number",
+            Fault::UnknownKind => "kind and bits are no pair that a picture has",
+            Fault::WrongSize => "the width or height is 0 or above 8,192",
+            Fault::PixelsOutside => "the pixels are not inside the file behind the header",
+            Fault::DepthNotOffered => "this depth is not offered",
+            Fault::NotWholePixels => "the source is not a whole number of pixels",
+            Fault::WrongRoom => "the destination has not exactly the length needed",
+            Fault::SampleTooGreat => "a sample is above the greatest of its depth",
+            Fault::ChromaZero => "a chroma sample has code 0",
+            Fault::TotalTooLong => "the spool would be longer than 4,294,967,295 bytes",
+            Fault::InputTooLong => "a listing takes at most 65,536 bytes",
+        }
+    }
+}
+
+/// A refusal: the fault, and its place where it has one.
+#[derive(Clone, Copy, Debug, PartialEq, Eq)]
+pub struct Refusal {
+    pub fault: Fault,
+    /// The byte offset of a sample, or the number of a record in its list.
+    pub place: Option<usize>,
+}
+
+impl fmt::Display for Refusal {
+    fn fmt(&self, f: &mut fmt::Formatter<'_>) -> fmt::Result {
+        write!(f, "refusal {}: {}", self.fault.number(), self.fault.words())?;
+        match (self.place, self.fault) {
+            (None, _) => Ok(()),
+            (Some(place), Fault::UnknownKind | Fault::WrongSize) => {
+                write!(f, " (record {place})")
+            }
+            (Some(place), _) => write!(f, " (byte {place})"),
+        }
+    }
+}
+
+impl Error for Refusal {}
+
+/// An answer of the library: a count, or minus the number of a refusal.
+pub(crate) fn judge(answer: i64, place: Option<usize>) -> Result<usize, Refusal> {
+    if let Ok(count) = usize::try_from(answer) {
+        return Ok(count);
+    }
+    let index = usize::try_from(-(answer + 1)).unwrap_or(usize::MAX);
+    let fault = *Fault::ALL
+        .get(index)
+        .expect("the library returns a count or one of its refusals");
+    Err(Refusal { fault, place })
+}
+
+#[cfg(test)]
+mod tests {
+    use super::*;
+
+    #[test]
+    fn numbers_are_in_order() {
+        for (index, fault) in Fault::ALL.into_iter().enumerate() {
+            assert_eq!(usize::from(fault.number()), index + 1);
+            assert_eq!(
+                judge(-i64::from(fault.number()), None).map_err(|r| r.fault),
+                Err(fault)
+            );
+        }
+    }
+
+    #[test]
+    fn words_with_the_number() {
+        let refusal = Refusal {
+            fault: Fault::SampleTooGreat,
+            place: Some(8),
+        };
+        assert_eq!(
+            refusal.to_string(),
+            "refusal 12: a sample is above the greatest of its depth (byte 8)"
+        );
+    }
+}

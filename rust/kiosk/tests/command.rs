@@ -1,0 +1,297 @@
+//! The kiosk command: what it prints and writes, and that bad input gives a clear error and no output.
+
+use kiosk::Record;
+use std::fs;
+use std::path::{Path, PathBuf};
+use std::process::{Command, Output};
+
+/// A folder of its own for each test.
+fn folder(name: &str) -> PathBuf {
+    let folder = Path::new(env!("CARGO_TARGET_TMPDIR")).join(name);
+    let _ = fs::remove_dir_all(&folder);
+    fs::create_dir_all(&folder).expect("a folder for the test");
+    folder
+}
+
+fn kiosk(folder: &Path, words: &[&str]) -> Output {
+    Command::new(env!("CARGO_BIN_EXE_kiosk"))
+        .args(words)
+        .current_dir(folder)
+        .output()
+        .expect("the command runs")
+}
+
+fn text(bytes: &[u8]) -> String {
+    String::from_utf8_lossy(bytes).into_owned()
+}
+
+/// The spool whose listing document 01 shows whole: two frames, of sRGB and of 10-bit e-sRGB.
+fn spool() -> Vec<u8> {
+    let srgb = Record {
+        width: 2,
+        height: 1,
+        kind: 1,
+        bits: 8,
+        copies: 1,
+        order: 501,
+        offset: 0,
+    };
+    let esrgb = Record {
+        width: 1,
+        kind: 2,
+        bits: 10,
+        copies: 3,
+        ..srgb
+    };
+    let mut file = vec![0; 56];
+    kiosk::lay_out(&[srgb, esrgb], 7, &mut file).expect("the spool is laid out");
+    file[44..50].copy_from_slice(&[255, 0, 0, 0, 0, 255]);
+    for (k, code) in [384u16, 384, 894].into_iter().enumerate() {
+        file[50 + 2 * k..52 + 2 * k].copy_from_slice(&code.to_le_bytes());
+    }
+    file
+}
+
+fn with_spool(name: &str) -> PathBuf {
+    let folder = folder(name);
+    fs::write(folder.join("in.spool"), spool()).expect("the spool is written");
+    folder
+}
+
+#[test]
+fn lists_the_frames() {
+    let folder = with_spool("lists");
+    let listed = kiosk(&folder, &["list", "in.spool"]);
+    assert!(listed.status.success());
+    assert_eq!(
+        text(&listed.stdout),
+        "frame order kind bits width height copies offset\n0 501 1 8 2 1 1 44\n1 501 2 10 1 1 3 50\n"
+    );
+    let mut damaged = spool();
+    damaged[12 + 8] = 9;
+    fs::write(folder.join("damaged.spool"), damaged).expect("written");
+    let listed = kiosk(&folder, &["list", "damaged.spool"]);
+    assert!(listed.status.success());
+    assert!(text(&listed.stdout).contains("\n0 refused 6\n1 501 2 10 1 1 3 50\n"));
+}
+
+#[test]
+fn converts_by_every_chain() {
+    let folder = with_spool("converts");
+    let forms = [
+        "srgb",
+        "esrgb10",
+        "esrgb12",
+        "esrgb16",
+        "lumachroma10",
+        "lumachroma12",
+        "lumachroma16",
+    ];
+    for frame in ["0", "1"] {
+        for form in forms {
+            let done = kiosk(
+                &folder,
+                &[
+                    "convert",
+                    "in.spool",
+                    frame,
+                    "--to",
+                    form,
+                    "--out",
+                    "one.spool",
+                ],
+            );
+            assert!(done.status.success(), "{}", text(&done.stderr));
+            // From what was written to every form again.
+            for again in forms {
+                let words = [
+                    "convert",
+                    "one.spool",
+                    "0",
+                    "--to",
+                    again,
+                    "--out",
+                    "two.spool",
+                ];
+                let done = kiosk(&folder, &words);
+                assert!(done.status.success(), "{}", text(&done.stderr));
+            }
+        }
+        for light in ["light10", "light12"] {
+            let words = [
+                "convert", "in.spool", frame, "--to", light, "--out", "light",
+            ];
+            assert!(kiosk(&folder, &words).status.success());
+        }
+    }
+    // Blue of 10-bit e-sRGB.
+    let light = fs::read(folder.join("light")).expect("light");
+    assert_eq!(light, [0, 0, 1_000_000].map(i32::to_le_bytes).concat());
+    let raw = [
+        "convert", "in.spool", "0", "--to", "esrgb12", "--raw", "--out", "raw",
+    ];
+    assert!(kiosk(&folder, &raw).status.success());
+    let raw = fs::read(folder.join("raw")).expect("pixels");
+    assert_eq!(
+        &raw[..6],
+        [3576u16, 1536, 1536].map(u16::to_le_bytes).concat()
+    );
+    let left = fs::read_dir(&folder).expect("the folder").count();
+    assert_eq!(left, 5, "no temporary file is left");
+}
+
+#[test]
+fn compares_both_runs() {
+    let folder = with_spool("compares");
+    let compared = kiosk(&folder, &["compare", "in.spool", "1"]);
+    assert!(compared.status.success());
+    assert_eq!(
+        text(&compared.stdout),
+        "10 bits: 3 channels: 2 equal, 0 one less, 1 one more, 0 further\n\
+         10 bits, brought to 8: 3 channels: 2 equal, 0 one less, 1 one more, 0 further\n"
+    );
+    let compared = kiosk(&folder, &["compare", "in.spool", "0"]);
+    assert_eq!(text(&compared.stdout).lines().count(), 6);
+}
+
+#[test]
+fn previews_as_png() {
+    let folder = with_spool("previews");
+    let words = ["preview", "in.spool", "0", "--out", "x.png"];
+    assert!(kiosk(&folder, &words).status.success());
+    let png = fs::read(folder.join("x.png")).expect("the picture");
+    assert_eq!(&png[..8], b"\x89PNG\r\n\x1a\n");
+    // One stored block of one row: no filter, then the pixels.
+    let row = [0, 255, 0, 0, 0, 0, 255];
+    assert!(png.windows(row.len()).any(|window| window == row));
+}
+
+/// Runs words that must fail: with this status, an error that holds these words, and no file written.
+fn fails(folder: &Path, words: &[&str], status: i32, error: &str) {
+    let before = fs::read_dir(folder).expect("the folder").count();
+    let failed = kiosk(folder, words);
+    let said = text(&failed.stderr);
+    assert_eq!(failed.status.code(), Some(status), "{words:?}: {said}");
+    assert!(said.contains(error), "{words:?}: {said}");
+    assert!(!said.contains("panicked"), "{words:?}: {said}");
+    assert!(failed.stdout.is_empty(), "{words:?}");
+    let after = fs::read_dir(folder).expect("the folder").count();
+    assert_eq!(before, after, "{words:?} leaves a file");
+}
+
+#[test]
+fn bad_input_fails_clearly() {
+    let folder = with_spool("fails");
+    fs::write(folder.join("empty"), []).expect("written");
+    fs::write(folder.join("short"), [1; 11]).expect("written");
+    let mut damaged = spool();
+    damaged[50..52].copy_from_slice(&1024u16.to_le_bytes());
+    fs::write(folder.join("damaged"), damaged).expect("written");
+    fs::create_dir(folder.join("folder")).expect("made");
+    let out = "out";
+
+    fails(&folder, &[], 2, "no command");
+    fails(&folder, &["shrink", "in.spool"], 2, "unknown command");
+    fails(&folder, &["list"], 2, "usage");
+    fails(&folder, &["list", "in.spool", "--raw"], 2, "option");
+    fails(&folder, &["list", "missing"], 1, "missing: No such file");
+    fails(&folder, &["list", "folder"], 1, "folder: Is a directory");
+    fails(&folder, &["list", "empty"], 1, "empty: refusal 1:");
+    fails(&folder, &["list", "short"], 1, "short: refusal 1:");
+    fails(
+        &folder,
+        &["compare", "in.spool", "2"],
+        1,
+        "frame 2: refusal 5: no frame has this number",
+    );
+    let great = "99999999999999999999999999";
+    fails(&folder, &["compare", "in.spool", great], 1, "refusal 5");
+    fails(
+        &folder,
+        &["compare", "in.spool", "-1"],
+        2,
+        "no frame number",
+    );
+    fails(
+        &folder,
+        &["compare", "in.spool", "one"],
+        2,
+        "no frame number",
+    );
+    fails(
+        &folder,
+        &["compare", "damaged", "1"],
+        1,
+        "refusal 12: a sample is above the greatest of its depth (byte 0)",
+    );
+    fails(
+        &folder,
+        &["preview", "in.spool", "0"],
+        2,
+        "--out is missing",
+    );
+    fails(
+        &folder,
+        &["preview", "damaged", "1", "--out", out],
+        1,
+        "refusal 12",
+    );
+    fails(
+        &folder,
+        &["preview", "in.spool", "0", "--out", "folder"],
+        1,
+        "folder:",
+    );
+    fails(
+        &folder,
+        &["preview", "in.spool", "0", "--out", "none/x.png"],
+        1,
+        "none/x.png: No such file",
+    );
+    fails(
+        &folder,
+        &["preview", "in.spool", "0", "--out", "/"],
+        1,
+        "/:",
+    );
+    fails(
+        &folder,
+        &["convert", "in.spool", "0", "--out", out],
+        2,
+        "--to is missing",
+    );
+    fails(
+        &folder,
+        &["convert", "in.spool", "0", "--to", "cmyk", "--out", out],
+        2,
+        "cmyk is no form",
+    );
+    fails(
+        &folder,
+        &["convert", "in.spool", "0", "--to"],
+        2,
+        "--to wants a value",
+    );
+    fails(
+        &folder,
+        &["convert", "in.spool", "5", "--to", "srgb", "--out", out],
+        1,
+        "refusal 5",
+    );
+    fails(
+        &folder,
+        &["convert", "damaged", "1", "--to", "light10", "--out", out],
+        1,
+        "refusal 12",
+    );
+}
+
+#[test]
+fn help_is_no_failure() {
+    let folder = folder("help");
+    for words in [&["--help"][..], &["convert", "--help"], &["-h"]] {
+        let helped = kiosk(&folder, words);
+        assert!(helped.status.success());
+        assert!(text(&helped.stdout).starts_with("usage: kiosk list FILE"));
+    }
+}

@@ -1,0 +1,157 @@
+/*
+ * Every function of kiosk.h, called from C: that the header's declarations fit the library, and that each
+ * answers as document 01's examples say. Prints the number of checks.
+ */
+#include "kiosk.h"
+
+#include <stdio.h>
+#include <string.h>
+
+static int checks, failures;
+
+static void check(int holds, const char *what)
+{
+    checks++;
+    if (!holds) {
+        failures++;
+        fprintf(stderr, "not so: %s\n", what);
+    }
+}
+
+#define CHECK(fact) check((fact), #fact)
+
+static uint16_t code_at(const uint8_t *bytes, size_t k)
+{
+    return (uint16_t)(bytes[2 * k] | bytes[2 * k + 1] << 8);
+}
+
+static void put_code(uint8_t *bytes, size_t k, unsigned code)
+{
+    bytes[2 * k] = (uint8_t)code;
+    bytes[2 * k + 1] = (uint8_t)(code >> 8);
+}
+
+static void pictures(void)
+{
+    const uint8_t srgb[6] = {0, 128, 255, 255, 0, 0};
+    uint8_t codes[12], wide[12], sheet[12], back[12], eight[6];
+    size_t place = 77, again_place = 78;
+    int64_t again = 0;
+
+    CHECK(kiosk_from_srgb(10, srgb, sizeof srgb, codes, sizeof codes, &place) == 2);
+    CHECK(code_at(codes, 0) == 384 && code_at(codes, 1) == 640 && code_at(codes, 2) == 894);
+    CHECK(kiosk_change_depth(10, 12, codes, sizeof codes, wide, sizeof wide, &place) == 2);
+    CHECK(code_at(wide, 0) == 1536 && code_at(wide, 1) == 2560 && code_at(wide, 2) == 3576);
+    CHECK(kiosk_to_luma_chroma(10, codes, sizeof codes, sheet, sizeof sheet, &place) == 2);
+    CHECK(code_at(sheet, 3) == 536 && code_at(sheet, 4) == 426 && code_at(sheet, 5) == 767);
+    CHECK(kiosk_from_luma_chroma(10, sheet, sizeof sheet, back, sizeof back, &place) == 2);
+    CHECK(code_at(back, 3) == 894 && code_at(back, 4) == 383 && code_at(back, 5) == 384);
+    CHECK(kiosk_to_srgb(10, codes, sizeof codes, eight, sizeof eight, &place) == 2);
+    CHECK(memcmp(eight, srgb, sizeof srgb) == 0);
+    CHECK(place == 77);
+
+    memset(sheet, 1, sizeof sheet);
+    memset(back, 2, sizeof back);
+    CHECK(kiosk_round_trip(10, codes, sizeof codes, sheet, sizeof sheet, back, sizeof back, &place, &again,
+                           &again_place) == 2);
+    CHECK(again == 2 && place == 77 && again_place == 78);
+    CHECK(code_at(sheet, 3) == 536 && code_at(back, 4) == 383);
+
+    memcpy(back, codes, sizeof codes);
+    CHECK(kiosk_from_srgb(11, srgb, sizeof srgb, back, sizeof back, &place) == -KIOSK_DEPTH_NOT_OFFERED);
+    CHECK(kiosk_from_srgb(10, srgb, 5, back, sizeof back, &place) == -KIOSK_NOT_WHOLE_PIXELS);
+    CHECK(kiosk_from_srgb(10, srgb, sizeof srgb, back, 11, &place) == -KIOSK_WRONG_ROOM);
+    CHECK(place == 77);
+    put_code(codes, 4, 1024);
+    CHECK(kiosk_to_luma_chroma(10, codes, sizeof codes, back, sizeof back, &place) == -KIOSK_SAMPLE_TOO_GREAT);
+    CHECK(place == 8);
+    put_code(sheet, 1, 0);
+    CHECK(kiosk_from_luma_chroma(10, sheet, sizeof sheet, back, sizeof back, &place) == -KIOSK_CHROMA_ZERO);
+    CHECK(place == 2);
+    CHECK(code_at(back, 1) == 640 && code_at(back, 3) == 894);
+}
+
+static void light(void)
+{
+    uint8_t codes[12], again[12];
+    int32_t numbers[6];
+    size_t place = 77;
+    const unsigned levels[6] = {1537, 1535, 1618, 3576, 1536, 4095};
+
+    for (size_t k = 0; k < 6; k++)
+        put_code(codes, k, levels[k]);
+    CHECK(kiosk_code_to_light(12, codes, sizeof codes, numbers, 6, &place) == 2);
+    CHECK(numbers[0] == 38 && numbers[1] == -38 && numbers[2] == 3111 && numbers[3] == 1000000 && numbers[4] == 0);
+    CHECK(kiosk_light_to_code(12, numbers, 6, again, sizeof again) == 2);
+    CHECK(memcmp(codes, again, sizeof codes) == 0);
+    numbers[0] = 3130;
+    numbers[1] = 3131;
+    numbers[2] = INT32_MIN;
+    numbers[3] = INT32_MAX;
+    CHECK(kiosk_light_to_code(12, numbers, 6, again, sizeof again) == 2);
+    CHECK(code_at(again, 0) == 1618 && code_at(again, 1) == 1619);
+    CHECK(code_at(again, 2) == 0 && code_at(again, 3) == 4095);
+    CHECK(kiosk_code_to_light(16, codes, sizeof codes, numbers, 6, &place) == -KIOSK_DEPTH_NOT_OFFERED);
+    CHECK(kiosk_light_to_code(12, numbers, 6, again, 11) == -KIOSK_WRONG_ROOM);
+    CHECK(place == 77);
+    put_code(codes, 5, 4096);
+    CHECK(kiosk_code_to_light(12, codes, sizeof codes, numbers, 6, &place) == -KIOSK_SAMPLE_TOO_GREAT);
+    CHECK(place == 10);
+}
+
+static void spools(void)
+{
+    struct kiosk_record records[2] = {
+        {99, 2, 1, KIOSK_SRGB, 8, 1, 501},
+        {99, 1, 1, KIOSK_ESRGB, 10, 3, 501},
+    };
+    struct kiosk_record record;
+    uint8_t file[56];
+    uint16_t shop = 0;
+    uint32_t table = 0;
+    size_t place = 77, next = 0;
+
+    CHECK(sizeof record == 16);
+    memset(file, 0x5a, sizeof file);
+    CHECK(kiosk_lay_out(records, sizeof records, 7, file, 55, &place) == -KIOSK_WRONG_ROOM);
+    CHECK(file[0] == 0x5a);
+    CHECK(kiosk_lay_out(records, sizeof records, 7, file, sizeof file, &place) == 56);
+    CHECK(file[44] == 0x5a && file[55] == 0x5a);
+    CHECK(kiosk_open(file, sizeof file, &shop, &table) == 2);
+    CHECK(shop == 7 && table == 12);
+
+    CHECK(kiosk_find(file, sizeof file, 1, &record) == 6);
+    CHECK(record.offset == 50 && record.width == 1 && record.height == 1 && record.kind == KIOSK_ESRGB);
+    CHECK(record.bits == 10 && record.copies == 3 && record.order == 501);
+    CHECK(kiosk_find(file, sizeof file, 2, &record) == -KIOSK_NO_SUCH_FRAME);
+    CHECK(record.offset == 0 && record.bits == 0 && record.order == 0);
+
+    CHECK(kiosk_step(file, sizeof file, &next, &record) == 6 && next == 1 && record.offset == 44);
+    CHECK(kiosk_step(file, sizeof file, &next, &record) == 6 && next == 2 && record.offset == 50);
+    CHECK(kiosk_step(file, sizeof file, &next, &record) == -KIOSK_NO_SUCH_FRAME && next == 2);
+
+    /* Bytes that make no whole record are not looked at. */
+    CHECK(kiosk_lay_out(records, sizeof records - 1, 7, file, 34, &place) == 34);
+    CHECK(kiosk_open(file, 34, &shop, &table) == 1);
+    CHECK(kiosk_lay_out(records, sizeof records, 7, file, sizeof file, &place) == 56);
+
+    CHECK(kiosk_open(file, 11, &shop, &table) == -KIOSK_TOO_SHORT);
+    CHECK(kiosk_open(file, 55, &shop, &table) == -KIOSK_WRONG_LENGTH);
+    CHECK(shop == 7 && table == 12);
+    records[1].bits = 8;
+    CHECK(kiosk_lay_out(records, sizeof records, 7, file, sizeof file, &place) == -KIOSK_UNKNOWN_KIND);
+    CHECK(place == 1);
+    records[1].bits = 10;
+    records[0].width = 8193;
+    CHECK(kiosk_lay_out(records, sizeof records, 7, file, sizeof file, &place) == -KIOSK_WRONG_SIZE);
+    CHECK(place == 0);
+}
+
+int main(void)
+{
+    pictures();
+    light();
+    spools();
+    printf("%d checks from C, %d failed\n", checks, failures);
+    return failures != 0;
+}

@@ -1,0 +1,79 @@
+//! What the outside tests share: random numbers with fixed seeds, destinations between guard bytes, and
+//! the library's types beside the reference's.
+
+#![forbid(unsafe_code)]
+
+use reference::buffers::Conversion;
+
+/// SplitMix64: the same numbers at every run.
+pub struct Random(u64);
+
+impl Random {
+    pub fn new(seed: u64) -> Self {
+        Random(seed)
+    }
+
+    pub fn number(&mut self) -> u64 {
+        self.0 = self.0.wrapping_add(0x9e37_79b9_7f4a_7c15);
+        let mut z = self.0;
+        z = (z ^ (z >> 30)).wrapping_mul(0xbf58_476d_1ce4_e5b9);
+        z = (z ^ (z >> 27)).wrapping_mul(0x94d0_49bb_1331_11eb);
+        z ^ (z >> 31)
+    }
+
+    /// A number below `end`.
+    pub fn below(&mut self, end: u64) -> u64 {
+        ((u128::from(self.number()) * u128::from(end)) >> 64) as u64
+    }
+
+    pub fn pick<T: Copy>(&mut self, choices: &[T]) -> T {
+        choices[self.below(choices.len() as u64) as usize]
+    }
+
+    pub fn bytes(&mut self, count: usize) -> Vec<u8> {
+        (0..count).map(|_| self.number() as u8).collect()
+    }
+}
+
+const GUARD: usize = 24;
+
+/// A destination with guard bytes around it, lent to `fill`. Gives what `fill` gives and the destination after
+/// it; a guard that is changed stops the test.
+pub fn guarded<T: Copy + PartialEq + std::fmt::Debug, R>(
+    before: &[T],
+    guard: T,
+    fill: impl FnOnce(&mut [T]) -> R,
+) -> (R, Vec<T>) {
+    let mut room = vec![guard; GUARD + before.len() + GUARD];
+    let middle = GUARD..GUARD + before.len();
+    room[middle.clone()].copy_from_slice(before);
+    let given = fill(&mut room[middle.clone()]);
+    assert!(
+        room[..middle.start].iter().all(|&x| x == guard),
+        "bytes before the destination"
+    );
+    assert!(
+        room[middle.end..].iter().all(|&x| x == guard),
+        "bytes behind the destination"
+    );
+    (given, room[middle].to_vec())
+}
+
+/// The library's conversion of the reference's.
+pub fn of_library(conversion: Conversion) -> kiosk::Conversion {
+    match conversion {
+        Conversion::FromSrgb(depth) => kiosk::Conversion::FromSrgb { depth },
+        Conversion::ToSrgb(depth) => kiosk::Conversion::ToSrgb { depth },
+        Conversion::ChangeDepth(from, to) => kiosk::Conversion::ChangeDepth { from, to },
+        Conversion::ToLumaChroma(depth) => kiosk::Conversion::ToLumaChroma { depth },
+        Conversion::FromLumaChroma(depth) => kiosk::Conversion::FromLumaChroma { depth },
+    }
+}
+
+/// An answer of the library in the reference's words.
+pub fn said<T>(answer: Result<T, kiosk::Refusal>) -> Result<T, reference::Refusal> {
+    answer.map_err(|refusal| reference::Refusal {
+        number: refusal.fault.number(),
+        place: refusal.place,
+    })
+}

@@ -1,0 +1,58 @@
+//! The proved library against the second implementation, from outside. Seeds are fixed; each part prints what
+//! it compared and stops the program at the first difference, with the input and both outputs.
+
+#![forbid(unsafe_code)]
+
+mod parts;
+
+use std::time::Instant;
+
+/// A part of the tests: what it compares, and the function that gives how many.
+type Part = (&'static str, fn() -> u64);
+
+const PARTS: [Part; 9] = [
+    (
+        "samples: every code of every depth",
+        parts::pictures::every_sample,
+    ),
+    (
+        "sRGB pixels through the whole chain, all 2^24 at three depths",
+        parts::pictures::every_srgb_pixel,
+    ),
+    (
+        "e-sRGB pixels and luma and chroma, with edges",
+        parts::pictures::pixels_with_edges,
+    ),
+    (
+        "calls of Convert with faults and wrong lengths",
+        parts::pictures::refusals,
+    ),
+    ("codes to light: every code", parts::light::every_code),
+    (
+        "light to codes: every light from -2,100,000 to 2,100,000",
+        parts::light::every_light,
+    ),
+    (
+        "calls of light with faults and wrong lengths",
+        parts::light::refusals,
+    ),
+    (
+        "spools laid out, found, walked, damaged and cut",
+        parts::spools::spools,
+    ),
+    (
+        "lists of records laid out, with faults",
+        parts::spools::layouts,
+    ),
+];
+
+fn main() {
+    for (what, part) in PARTS {
+        let start = Instant::now();
+        let count = part();
+        println!(
+            "{count:>12} {what} ({:.1} s)",
+            start.elapsed().as_secs_f64()
+        );
+    }
+}

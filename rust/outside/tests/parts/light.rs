@@ -1,0 +1,122 @@
+//! Linear light.
+
+use outside::{guarded, said, Random};
+use reference::{buffers, light, samples};
+
+const DEPTHS: [u32; 2] = [10, 12];
+
+fn codes_of(lights: &[i32], depth: u32) -> Vec<u16> {
+    let before = vec![0x5a; 2 * lights.len()];
+    let (answer, after) = guarded(&before, 0xa5, |dst| {
+        kiosk::light_to_code(depth, lights, dst)
+    });
+    assert_eq!(answer, Ok(lights.len() / 3));
+    after
+        .chunks_exact(2)
+        .map(|code| u16::from_le_bytes([code[0], code[1]]))
+        .collect()
+}
+
+/// Every code of both depths to light, in all three places.
+pub fn every_code() -> u64 {
+    let mut count = 0;
+    for depth in DEPTHS {
+        let codes: Vec<u16> = (0..=samples::greatest(depth) as u16)
+            .flat_map(|code| [code; 3])
+            .collect();
+        let src: Vec<u8> = codes.iter().flat_map(|code| code.to_le_bytes()).collect();
+        let (answer, lights) = guarded(&vec![7; codes.len()], -1, |dst| {
+            kiosk::code_to_light(depth, &src, dst)
+        });
+        assert_eq!(answer, Ok(codes.len() / 3));
+        for (&code, &found) in codes.iter().zip(&lights) {
+            let expected = light::from_code(depth, i64::from(code));
+            assert_eq!(found, expected, "code {code} at {depth} bits to light");
+            count += 1;
+        }
+    }
+    count
+}
+
+/// Every light of a wide range, and random ones of all 32 bits, to codes.
+pub fn every_light() -> u64 {
+    const TOP: i32 = 2_100_000;
+    let mut count = 0;
+    for depth in DEPTHS {
+        let (up, down) = light::codes_around_zero(depth, TOP as u32);
+        let mut lights: Vec<i32> = (-TOP..=TOP).collect();
+        while !lights.len().is_multiple_of(3) {
+            lights.push(0);
+        }
+        for (&q, code) in lights.iter().zip(codes_of(&lights, depth)) {
+            let side = if q < 0 { &down } else { &up };
+            let expected = side[q.unsigned_abs() as usize];
+            assert_eq!(i64::from(code), expected, "light {q} at {depth} bits");
+            count += 1;
+        }
+        let mut random = Random::new(3);
+        let mut far: Vec<i32> = vec![i32::MIN, i32::MIN + 1, i32::MAX, i32::MAX - 1, 0, -1];
+        for _ in 0..30_000 {
+            far.push((random.number() as i32) >> random.below(32));
+        }
+        for (&q, code) in far.iter().zip(codes_of(&far, depth)) {
+            assert_eq!(
+                i64::from(code),
+                light::to_code(depth, q),
+                "light {q} at {depth} bits"
+            );
+            count += 1;
+        }
+    }
+    count
+}
+
+/// Short buffers of any length and depth, with faults, both ways.
+pub fn refusals() -> u64 {
+    let mut random = Random::new(4);
+    let mut count = 0;
+    for _ in 0..40_000 {
+        let depth = random.pick(&[10, 12, 10, 12, 16, 8, 11, 0, u32::MAX]);
+        let top = if depth == 10 { 1100 } else { 4200 };
+        let mut src: Vec<u8> = (0..3 * random.below(5))
+            .flat_map(|_| (random.below(top) as u16).to_le_bytes())
+            .collect();
+        if random.below(8) == 0 {
+            src.truncate(random.below(src.len() as u64 + 1) as usize);
+        }
+        let room = match random.below(8) {
+            0 => random.below(16) as usize,
+            _ => src.len() / 2,
+        };
+        let before: Vec<i32> = (0..room).map(|_| random.number() as i32).collect();
+        let (answer, after) = guarded(&before, -1, |dst| kiosk::code_to_light(depth, &src, dst));
+        let mut expected = before.clone();
+        let expected_answer = buffers::code_to_light(depth, &src, &mut expected);
+        assert_eq!(
+            (said(answer), after),
+            (expected_answer, expected),
+            "{src:?} at {depth} bits to {room} numbers of light"
+        );
+
+        let lights: Vec<i32> = (0..random.below(13))
+            .map(|_| random.number() as i32 >> random.below(32))
+            .collect();
+        let room = match random.below(8) {
+            0 => random.below(30) as usize,
+            _ => 2 * lights.len(),
+        };
+        let before = random.bytes(room);
+        let (answer, after) = guarded(&before, 0xa5, |dst| {
+            kiosk::light_to_code(depth, &lights, dst)
+        });
+        let mut expected = before.clone();
+        let expected_answer = buffers::light_to_code(depth, &lights, &mut expected);
+        assert_eq!(
+            (said(answer), after),
+            (expected_answer, expected),
+            "{lights:?} at {depth} bits to {room} bytes of codes"
+        );
+        count += 2;
+    }
+    count
+}

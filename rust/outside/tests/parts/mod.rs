@@ -1,0 +1,3 @@
+pub mod light;
+pub mod pictures;
+pub mod spools;

@@ -1,0 +1,255 @@
+//! Convert.
+
+use outside::{guarded, of_library, said, Random};
+use reference::buffers::{convert, Conversion, Form};
+use reference::samples;
+
+const DEPTHS: [u32; 3] = [10, 12, 16];
+
+fn wide(samples: impl IntoIterator<Item = i64>) -> Vec<u8> {
+    samples
+        .into_iter()
+        .flat_map(|sample| (sample as u16).to_le_bytes())
+        .collect()
+}
+
+fn read(bytes: &[u8], width: usize) -> Vec<i64> {
+    bytes
+        .chunks_exact(width)
+        .map(|sample| sample.iter().rev().fold(0, |n, &b| 256 * n + i64::from(b)))
+        .collect()
+}
+
+/// The library's conversion of a sound picture, in a destination that held something else.
+fn converted(conversion: Conversion, src: &[u8]) -> Vec<u8> {
+    let pixels = src.len() / (3 * conversion.source().width());
+    let before = vec![0x5a; pixels * 3 * conversion.target().width()];
+    let (answer, after) = guarded(&before, 0xa5, |dst| {
+        kiosk::convert(of_library(conversion), src, dst)
+    });
+    assert_eq!(answer, Ok(pixels), "{conversion:?}");
+    after
+}
+
+/// Compares the library's pixels with the reference's rule, pixel by pixel.
+fn compare(conversion: Conversion, src: &[u8], after: &[u8]) -> u64 {
+    let before = read(src, conversion.source().width());
+    let after = read(after, conversion.target().width());
+    for (p, q) in before.chunks_exact(3).zip(after.chunks_exact(3)) {
+        let expected = conversion.pixel([p[0], p[1], p[2]]);
+        assert_eq!(q, expected, "{conversion:?} of {p:?}");
+    }
+    (before.len() / 3) as u64
+}
+
+/// Every code of every depth through every rule of a single sample. Each code stands in all three places.
+pub fn every_sample() -> u64 {
+    let mut count = 0;
+    let mut check = |conversion: Conversion, src: Vec<u8>| {
+        count += 3 * compare(conversion, &src, &converted(conversion, &src));
+    };
+    for depth in DEPTHS {
+        let codes = wide((0..=samples::greatest(depth)).flat_map(|code| [code; 3]));
+        check(
+            Conversion::FromSrgb(depth),
+            (0..=255).flat_map(|a| [a; 3]).collect(),
+        );
+        check(Conversion::ToSrgb(depth), codes.clone());
+        for to in DEPTHS {
+            check(Conversion::ChangeDepth(depth, to), codes.clone());
+        }
+    }
+    count
+}
+
+/// All sRGB pixels through the chain of demand 3 at each depth: every call against the reference, and demand 3
+/// itself on what comes back.
+pub fn every_srgb_pixel() -> u64 {
+    let mut count = 0;
+    for depth in DEPTHS {
+        let mut greater = 0u64;
+        for red in 0..=255 {
+            let picture: Vec<u8> = (0..=255)
+                .flat_map(|green| (0..=255).flat_map(move |blue| [red, green, blue]))
+                .collect();
+            let codes = converted(Conversion::FromSrgb(depth), &picture);
+            let sheet = converted(Conversion::ToLumaChroma(depth), &codes);
+            let back = converted(Conversion::FromLumaChroma(depth), &sheet);
+            let direct = converted(Conversion::ToSrgb(depth), &codes);
+            let round = converted(Conversion::ToSrgb(depth), &back);
+            count += compare(Conversion::FromSrgb(depth), &picture, &codes);
+            compare(Conversion::ToLumaChroma(depth), &codes, &sheet);
+            compare(Conversion::FromLumaChroma(depth), &sheet, &back);
+            compare(Conversion::ToSrgb(depth), &back, &round);
+            assert_eq!(direct, picture, "straight back at {depth} bits");
+            let (codes, back) = (read(&codes, 2), read(&back, 2));
+            for (k, (&a, &x)) in picture.iter().zip(&round).enumerate() {
+                assert!((codes[k] - back[k]).abs() <= 1, "within one code");
+                let more = depth == 10 && back[k] == codes[k] + 1 && a < 255;
+                assert_eq!(i64::from(x), i64::from(a) + i64::from(more));
+                greater += u64::from(more);
+            }
+        }
+        // Counted by another program, before the library was written.
+        assert_eq!(greater, if depth == 10 { 8_278_086 } else { 0 });
+    }
+    count
+}
+
+/// Codes at which something changes.
+fn edges(depth: u32) -> Vec<i64> {
+    let top = samples::greatest(depth);
+    let middle = (top + 1) / 2;
+    let offset = samples::offset(depth);
+    let white = offset + samples::scale(depth);
+    let mut edges: Vec<i64> = [0, middle, offset, white, top]
+        .into_iter()
+        .flat_map(|edge| [edge - 2, edge - 1, edge, edge + 1, edge + 2])
+        .filter(|code| (0..=top).contains(code))
+        .collect();
+    edges.sort_unstable();
+    edges.dedup();
+    edges
+}
+
+/// Pixels of codes, and of luma and chroma: all combinations of edges, and random ones.
+pub fn pixels_with_edges() -> u64 {
+    let mut random = Random::new(1);
+    let mut count = 0;
+    for depth in DEPTHS {
+        let top = samples::greatest(depth);
+        let edges = edges(depth);
+        let mut corners = Vec::new();
+        for &a in &edges {
+            for &b in &edges {
+                for &c in &edges {
+                    corners.extend([a, b, c]);
+                }
+            }
+        }
+        // Chroma has no code 0.
+        let mut check = |samples: &[i64]| {
+            let codes = wide(samples.iter().copied());
+            let sheets = wide(samples.iter().enumerate().map(|(k, &sample)| {
+                if k % 3 == 0 {
+                    sample
+                } else {
+                    sample.max(1)
+                }
+            }));
+            for (conversion, src) in [
+                (Conversion::ToLumaChroma(depth), &codes),
+                (Conversion::FromLumaChroma(depth), &sheets),
+                (Conversion::ToSrgb(depth), &codes),
+            ] {
+                count += compare(conversion, src, &converted(conversion, src));
+            }
+            let sheet = converted(Conversion::ToLumaChroma(depth), &codes);
+            let back = read(&converted(Conversion::FromLumaChroma(depth), &sheet), 2);
+            for (before, after) in samples.chunks_exact(3).zip(back.chunks_exact(3)) {
+                assert!(before.iter().zip(after).all(|(a, b)| (a - b).abs() <= 1));
+                let grey = before[0] == before[1] && before[1] == before[2];
+                assert!(!grey || before == after, "a grey comes back exactly");
+            }
+            let mut again = vec![0; codes.len()];
+            let mut there = vec![0; codes.len()];
+            let trip = kiosk::round_trip(depth, &codes, &mut there, &mut again);
+            assert_eq!(trip.there, Ok(samples.len() / 3));
+            assert_eq!(trip.again, Ok(samples.len() / 3));
+            assert_eq!((there, read(&again, 2)), (sheet, back));
+        };
+        check(&corners);
+        for _ in 0..32 {
+            let samples: Vec<i64> = (0..3 * 65_536)
+                .map(|_| random.below(top as u64 + 1) as i64)
+                .collect();
+            check(&samples);
+            // Near a grey, where luma and chroma round most finely.
+            let near: Vec<i64> = (0..65_536)
+                .flat_map(|_| {
+                    let grey = random.below(top as u64 + 1) as i64;
+                    [0; 3].map(|_| (grey + random.below(9) as i64 - 4).clamp(0, top))
+                })
+                .collect();
+            check(&near);
+        }
+    }
+    count
+}
+
+/// Short buffers of any length and depth, with faults: answers, places and every byte against the reference.
+pub fn refusals() -> u64 {
+    let mut random = Random::new(2);
+    let mut count = 0;
+    let depths = [
+        10,
+        12,
+        16,
+        10,
+        12,
+        16,
+        0,
+        8,
+        9,
+        11,
+        13,
+        15,
+        17,
+        32,
+        u32::MAX,
+    ];
+    for _ in 0..400_000 {
+        let (n, m) = (random.pick(&depths), random.pick(&depths));
+        let conversion = random.pick(&[
+            Conversion::FromSrgb(n),
+            Conversion::ToSrgb(n),
+            Conversion::ChangeDepth(n, m),
+            Conversion::ToLumaChroma(n),
+            Conversion::FromLumaChroma(n),
+        ]);
+        let (from, to) = (conversion.source(), conversion.target());
+        let pixels = random.below(6) as usize;
+        let mut src = match from {
+            Form::Srgb => random.bytes(3 * pixels),
+            Form::Esrgb(depth) | Form::LumaChroma(depth) => {
+                let top = if samples::offered(depth) {
+                    samples::greatest(depth)
+                } else {
+                    65_535
+                };
+                wide((0..3 * pixels).map(|_| random.below(top as u64 + 1) as i64))
+            }
+        };
+        // A sample at fault, sometimes two, and sometimes a length that is not whole.
+        for _ in 0..random.below(3) {
+            if !src.is_empty() {
+                let k = random.below(src.len() as u64) as usize & !1;
+                for byte in src.iter_mut().skip(k).take(2) {
+                    *byte = random.pick(&[0, 0, 1, 3, 4, 15, 16, 255]);
+                }
+            }
+        }
+        if random.below(8) == 0 {
+            src.truncate(random.below(src.len() as u64 + 1) as usize);
+        }
+        let needed = src.len() / (3 * from.width()) * 3 * to.width();
+        let room = match random.below(8) {
+            0 => random.below(40) as usize,
+            1 => needed + 1,
+            _ => needed,
+        };
+        let before = random.bytes(room);
+        let (answer, after) = guarded(&before, 0xa5, |dst| {
+            kiosk::convert(of_library(conversion), &src, dst)
+        });
+        let mut expected = before.clone();
+        let expected_answer = convert(conversion, &src, &mut expected);
+        assert_eq!(
+            (said(answer), after),
+            (expected_answer, expected),
+            "{conversion:?} of {src:?} into {room} bytes"
+        );
+        count += 1;
+    }
+    count
+}

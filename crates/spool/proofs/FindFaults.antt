@@ -12,15 +12,16 @@ use native.Mathlib.Nat.{le-of-eq, add-sub-cancel-left}
 use borrow.Author.Tests.{lt-ltb, le-ltb, ltb-true, ltb-false, eqb-true, eqb-false}
 use Rattle.refusal.specs.declared.Refusal.{Refusal}
 use Rattle.refusal.specs.Refusals.{numberOf}
-use Rattle.spool.specs.declared.FrameRecord.{FrameRecord}
+use Rattle.records.specs.declared.FrameRecord.{FrameRecord}
 use Rattle.spool.specs.declared.Found.{Found}
 use Rattle.spool.specs.declared.Found.the-variants.{Frame}
 use Rattle.spool.specs.declared.Contents.{Contents}
 use Rattle.spool.specs.declared.Opened.{Opened}
 use Rattle.spool.specs.declared.Opened.the-variants.{Spool, Refused}
-use Rattle.spool.specs.Layout.{headerIn, recordIn, pixelBytes}
+use Rattle.records.specs.Layout.{headerIn, recordIn}
+use Rattle.records.specs.Faults.{recordFault, pixelBytes}
 use Rattle.spool.specs.Open.{openFault, openSaid, openSays, tableEnd}
-use Rattle.spool.specs.Find.{FindSaid, finds, refused, noRecord, recordFault, recordAt, pixelsOutside, pixelEnd, findFault, findSaid, findSays, pixelsStart, pixelsLength, pixelsOf}
+use Rattle.spool.specs.Find.{FindSaid, finds, refused, noRecord, recordAt, pixelsOutside, pixelEnd, frameFault, frameSays, findFault, findSaid, findSays, pixelsStart, pixelsLength, pixelsOf}
 use Rattle.spool.proofs.Tests.{passed}
 use Rattle.numbers.proofs.Booleans.{or-false}
 use Rattle.spool.proofs.OpenFaults.{sound, opens-sound, refused-fault}
@@ -34,13 +35,9 @@ opened file {o} {s} e said = opens-sound (s .count) (s .shop) (s .table) file (a
 pub record-inside : (file : List ℕ) (k : ℕ) → openFault file ≡ 0 → k < headerIn file .count → headerIn file .table + 16 * k + 16 ≤ length file
 record-inside file k opens below = let inside = sound file opens .inside in omega arith
 
-pub record-there : (file : List ℕ) (k t : ℕ) {r : FrameRecord} → t ≡ headerIn file .table
-    → r ≡ recordIn (take (length file - (t + 16 * k)) (drop (t + 16 * k) file)) → r ≡ recordAt file k
+pub record-there : (file : List ℕ) (k t : ℕ) {r : FrameRecord} → t ≡ headerIn file .table → r ≡ recordIn (drop (t + 16 * k) file) → r ≡ recordAt file k
 unfolding recordAt
-record-there file k t e read =
-    read
-    ∙ ap recordIn (take-all _ (drop (t + 16 * k) file) (le-of-eq (length-drop (t + 16 * k) file)))
-    ∙ ap (λ (n : ℕ). recordIn (drop (n + 16 * k) file)) e
+record-there file k t e read = read ∙ ap (λ (n : ℕ). recordIn (drop (n + 16 * k) file)) e
 
 module _ (file : List ℕ) (k : ℕ) where
   -- Open's refusal is Find's.
@@ -53,19 +50,21 @@ module _ (file : List ℕ) (k : ℕ) where
     unfolding findFault
     no-such-frame past = simp (opens, le-ltb _ _ past)
 
-    module _ (below : k < headerIn file .count) (r : FrameRecord) (read : r ≡ recordAt file k) where
-      pub faulty : (n : ℕ) → eqb n 0 ≡ false → n ≡ recordFault r → refused n noRecord ≡ findSays file k
-      unfolding findFault
-      faulty n bad e = simp (opens, lt-ltb _ _ below, sym read, sym e, bad)
+    pub by-record : {r : FrameRecord} → k < headerIn file .count → r ≡ recordAt file k → frameSays file r ≡ findSays file k
+    unfolding findFault
+    by-record below read = simp (opens, lt-ltb _ _ below, read)
 
-      module _ (fine : 0 ≡ recordFault r) where
-        pub outside : pixelsOutside file r ≡ true → refused 8 noRecord ≡ findSays file k
-        unfolding findFault
-        outside bad = simp (opens, lt-ltb _ _ below, sym read, sym fine, bad)
+-- A record that is faulty, one whose pixels are outside, and one that is sound.
+module _ (file : List ℕ) (r : FrameRecord) where
+  pub faulty : (n : ℕ) → eqb n 0 ≡ false → n ≡ recordFault r → refused n noRecord ≡ frameSays file r
+  faulty n bad e = simp (sym e, bad)
 
-        pub found : pixelsOutside file r ≡ false → finds r ≡ findSays file k
-        unfolding findFault
-        found good = simp (opens, lt-ltb _ _ below, sym read, sym fine, good)
+  module _ (fine : 0 ≡ recordFault r) where
+    pub outside : pixelsOutside file r ≡ true → refused 8 noRecord ≡ frameSays file r
+    outside bad = simp (sym fine, bad)
+
+    pub found : pixelsOutside file r ≡ false → finds r ≡ frameSays file r
+    found good = simp (sym fine, good)
 
 -- What holds of a frame that is found.
 pub record Whole (file : List ℕ) (k : ℕ) (r : FrameRecord) : Type 0 where

@@ -1,5 +1,3 @@
-pub mod Fields
-pub mod Sizes
 pub mod Tests
 pub mod OpenFaults
 pub mod FindFaults

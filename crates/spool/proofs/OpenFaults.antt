@@ -8,8 +8,8 @@ use mathlib.Core.List.{List}
 use lib.ListN.{length}
 use lib.Dec.{eqb, ltb}
 use borrow.Author.Tests.{lt-ltb, le-ltb, eq-eqb, ne-eqb, ltb-false, eqb-true}
-use Rattle.spool.specs.declared.Header.{Header}
-use Rattle.spool.specs.Layout.{headerIn}
+use Rattle.records.specs.declared.Header.{Header}
+use Rattle.records.specs.Layout.{headerIn}
 use Rattle.spool.specs.Open.{opens, refused, openFault, openSays, tableEnd}
 use Rattle.spool.proofs.Tests.{passed}
 use Rattle.numbers.proofs.Booleans.{or-false}

@@ -8,21 +8,12 @@ use lib.ListN.{length, take, drop}
 use lib.Dec.{eqb, ltb}
 use denote.Ref.{RefT, now, ptr}
 use Rattle.refusal.specs.Refusals.{numberOf}
-use Rattle.spool.specs.declared.FrameRecord.{FrameRecord}
-use Rattle.spool.specs.declared.Checked.{Checked}
-use Rattle.spool.specs.declared.Checked.the-variants.{Sound, Faulty}
+use Rattle.records.specs.declared.FrameRecord.{FrameRecord}
+use Rattle.records.specs.Layout.{headerSize, recordSize, headerIn, recordIn}
+use Rattle.records.specs.Faults.{recordFault, pixelBytes}
 use Rattle.spool.specs.declared.Found.{Found}
 use Rattle.spool.specs.declared.Found.the-variants.{Frame, Refused}
-use Rattle.spool.specs.Layout.{headerSize, recordSize, headerIn, recordIn, isPair, badSide, pixelBytes}
 use Rattle.spool.specs.Open.{openFault}
-
--- The refusal of a record, 0 for none: "6 kind and bits not a pair above; 7 width or height 0 or above 8,192".
-unfoldable pub recordFault : FrameRecord → ℕ
-recordFault r = cond (isPair (r .kind) (r .bits)) (cond (badSide (r .width) || badSide (r .height)) 7 0) 6
-
-abbrev pub checked : Checked → ℕ
-checked Sound = 0
-checked (Faulty r) = numberOf r
 
 -- The record of frame k. "Frames count from 0."
 unfoldable pub recordAt : List ℕ → ℕ → FrameRecord
@@ -40,13 +31,13 @@ pixelsOutside file r = ltb (r .offset) headerSize || ltb (length file) (pixelEnd
 abbrev pub orElse : ℕ → ℕ → ℕ
 orElse first second = cond (eqb first 0) second first
 
--- "Open's refusals first; 5 frame number not below the count; 6 ..; 7 ..; 8 .."
+-- "6 ..; 7 ..; 8 ..": the refusal of a record in its file.
+abbrev pub frameFault : List ℕ → FrameRecord → ℕ
+frameFault file r = orElse (recordFault r) (cond (pixelsOutside file r) 8 0)
+
+-- "Open's refusals first; 5 frame number not below the count"; then those of its record.
 unfoldable pub findFault : List ℕ → ℕ → ℕ
-findFault file k =
-    orElse (openFault file)
-    (cond (ltb k (headerIn file .count))
-    (orElse (recordFault (recordAt file k)) (cond (pixelsOutside file (recordAt file k)) 8 0))
-    5)
+findFault file k = orElse (openFault file) (cond (ltb k (headerIn file .count)) (frameFault file (recordAt file k)) 5)
 
 -- Accepted, the record; refused, the number, "and the record is all zeros".
 pub data FindSaid : Type 0 where
@@ -60,8 +51,14 @@ abbrev pub findSaid : Found → FindSaid
 findSaid (Frame r) = finds r
 findSaid (Refused r) = refused (numberOf r) noRecord
 
+abbrev pub byFault : ℕ → FrameRecord → FindSaid
+byFault fault r = cond (eqb fault 0) (finds r) (refused fault noRecord)
+
+abbrev pub frameSays : List ℕ → FrameRecord → FindSaid
+frameSays file r = byFault (frameFault file r) r
+
 abbrev pub findSays : List ℕ → ℕ → FindSaid
-findSays file k = cond (eqb (findFault file k) 0) (finds (recordAt file k)) (refused (findFault file k) noRecord)
+findSays file k = byFault (findFault file k) (recordAt file k)
 
 -- "The frame's own stretch of the lent file": where its pixels start and how many bytes they are; "refused, the stretch is
 -- empty, at the file's start".

@@ -1,4 +1,2 @@
-pub mod Fields
-pub mod Layout
 pub mod Open
 pub mod Find

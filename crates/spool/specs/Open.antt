@@ -8,7 +8,8 @@ use lib.Dec.{eqb, ltb}
 use Rattle.refusal.specs.Refusals.{numberOf}
 use Rattle.spool.specs.declared.Opened.{Opened}
 use Rattle.spool.specs.declared.Opened.the-variants.{Spool, Refused}
-use Rattle.spool.specs.Layout.{headerSize, recordSize, headerIn, frameLimit}
+use Rattle.records.specs.Layout.{headerSize, recordSize, headerIn}
+use Rattle.records.specs.Faults.{frameLimit}
 
 -- "Accepted, the frame count, the shop and the table offset"; "refused, it gives the number only".
 pub data OpenSaid : Type 0 where

@@ -1,13 +1,12 @@
 -- `spool::find` meets its contract.
 -- Assumes nothing.
-use Prim.Native.Nat.{_+_, _*_, _≤_}
+use Prim.Native.Nat.{_+_, _*_, _<_}
 use native.Mathlib.Omega.{arith}
-use mathlib.Core.Path.{sym, ap, _∙_}
-use lib.ListN.{length, length-take, length-drop}
+use mathlib.Core.Path.{subst, _∙_}
+use lib.ListN.{length}
+use Rattle.records.specs.Layout.{ReadsRecord}
+use Rattle.spool.proofs.FindFaults.{opened, record-inside, record-there, shut-spool, no-such-frame, by-record}
 use borrow.Author.Needs.{needs}
-use Rattle.spool.specs.Find.{checked}
-use Rattle.refusal.proofs.Numbers.{numbered}
-use Rattle.spool.proofs.FindFaults.{opened, record-inside, record-there, shut-spool, no-such-frame, faulty, outside, found}
 use Rattle.spool.proofs.find.Statement.{statement}
 use Rattle.spool.proofs.find.Tie as tie
 
@@ -25,8 +24,9 @@ cast-if1 c = search needs
 
 returns : tie.Need-returns
 returns c =
-    let spool = opened (c .before .before .before .before .before .before .before .args .file .now) (c .before .before .before .contents .given .1) (c .before .before .before .before .before .«open» .ensures) in
-    no-such-frame (c .before .before .before .before .before .before .before .args .file .now) (c .before .before .before .before .before .before .before .args .number) (spool .0) (omega arith)
+    let at = c .before .before .before .before .before .before .before .args in
+    let spool = opened (at .file .now) (c .before .before .before .contents .given .1) (c .before .before .before .before .before .«open» .ensures) in
+    no-such-frame (at .file .now) (at .number) (spool .0) (omega arith)
 
 cast-at : tie.Need-cast-at
 cast-at c = search needs
@@ -37,60 +37,35 @@ mul-at c = search needs
 add-at : tie.Need-add-at
 add-at c = search needs
 
--- The whole record is inside the file.
-inside : (c : tie.After-struct-known2) → c .before .before .before .before .contents .given .0 .0 .table + 16 * c .before .before .before .before .before .before .before .before .args .number + 16 ≤ length (c .before .before .before .before .before .before .before .before .args .file .now)
-inside c =
-    let spool = opened (c .before .before .before .before .before .before .before .before .args .file .now) (c .before .before .before .before .contents .given .1) (c .before .before .before .before .before .before .«open» .ensures) in
-    let room = record-inside (c .before .before .before .before .before .before .before .before .args .file .now) (c .before .before .before .before .before .before .before .before .args .number) (spool .0) (omega arith) in
-    omega arith
+read-record-requires : tie.Need-read-record-requires
+read-record-requires c κs = search needs
 
-sub-record-in : tie.Need-sub-record-in
-sub-record-in c = let room = inside c in omega arith
+enum-known-frame : tie.Need-enum-known-frame
+enum-known-frame c = search needs
 
-part-record-in-start : tie.Need-part-record-in-start
-part-record-in-start c = let room = inside c in search needs
-
-part-record-in-end : tie.Need-part-record-in-end
-part-record-in-end c = search needs
-
-record-in-requires : tie.Need-record-in-requires
-record-in-requires c κs = let room = inside (c .before) in simp (length-take, length-drop) (omega arith)
-
-check-record-requires : tie.Need-check-record-requires
-check-record-requires c κs = search needs
-
-enum-known-refusal-2 : tie.Need-enum-known-refusal-2
-enum-known-refusal-2 c = search needs
+frame-of-requires : tie.Need-frame-of-requires
+frame-of-requires c κs = search needs
 
 enum-told : tie.Need-enum-told
 enum-told c = search needs
 
-pixels-outside-requires : tie.Need-pixels-outside-requires
-pixels-outside-requires c κs = search needs
-
 returns-2 : tie.Need-returns-2
-returns-2 c =
-    let spool = opened (c .before .before .before .before .before .before .before .before .before .before .before .before .before .before .before .args .file .now) (c .before .before .before .before .before .before .before .before .before .before .before .contents .given .1) (c .before .before .before .before .before .before .before .before .before .before .before .before .before .«open» .ensures) in
-    let at = c .before .before .before .before .before .before .before .before .before .before .before .before .before .before .before .args in
-    let read = record-there (at .file .now) (at .number) (c .before .before .before .before .before .before .before .before .before .before .before .contents .given .0 .0 .table) (spool .2) (c .before .before .before .before .before .record-in .ensures) in
-    outside (at .file .now) (at .number) (spool .0) (omega arith) (c .before .before .before .before .before .record-in .result) read (ap checked (sym (c .before .before .enum-told .given .1)) ∙ c .before .before .before .before .check-record .ensures) (sym (c .before .pixels-outside .ensures) ∙ c .if2 .taken)
+returns-2 c = shut-spool (c .before .before .before .before .before .args .file .now) (c .before .before .before .before .before .args .number) (c .before .refusal .given .1) (c .before .before .before .«open» .ensures)
 
 returns-3 : tie.Need-returns-3
-returns-3 c = shut-spool (c .before .before .before .before .before .args .file .now) (c .before .before .before .before .before .args .number) (c .before .refusal .given .1) (c .before .before .before .«open» .ensures)
+returns-3 c =
+    let at = c .before .before .before .before .before .before .before .before .before .before .before .before .before .args in
+    let spool = opened (at .file .now) (c .before .before .before .before .before .before .before .before .before .contents .given .1) (c .before .before .before .before .before .before .before .before .before .before .before .«open» .ensures) in
+    let read = subst (ReadsRecord (at .file .now) (c .before .before .before .before .before .before .before .before .before .contents .given .0 .0 .table + 16 * at .number)) (c .before .before .frame .given .1) (c .before .before .before .before .read-record .ensures) in
+    c .frame-of .ensures ∙ by-record (at .file .now) (at .number) (spool .0) (omega arith) (record-there (at .file .now) (at .number) (c .before .before .before .before .before .before .before .before .before .contents .given .0 .0 .table) (spool .2) (read .1))
 
 returns-4 : tie.Need-returns-4
 returns-4 c =
-    let spool = opened (c .before .before .before .before .before .before .before .before .before .before .before .before .before .before .args .file .now) (c .before .before .before .before .before .before .before .before .before .before .contents .given .1) (c .before .before .before .before .before .before .before .before .before .before .before .before .«open» .ensures) in
-    let at = c .before .before .before .before .before .before .before .before .before .before .before .before .before .before .args in
-    let read = record-there (at .file .now) (at .number) (c .before .before .before .before .before .before .before .before .before .before .contents .given .0 .0 .table) (spool .2) (c .before .before .before .before .record-in .ensures) in
-    faulty (at .file .now) (at .number) (spool .0) (omega arith) (c .before .before .before .before .record-in .result) read _ (numbered (c .before .refusal2 .given .0 .0)) (ap checked (sym (c .before .refusal2 .given .1)) ∙ c .before .before .before .check-record .ensures)
-
-returns-5 : tie.Need-returns-5
-returns-5 c =
-    let spool = opened (c .before .before .before .before .before .before .before .before .before .before .before .before .before .before .before .args .file .now) (c .before .before .before .before .before .before .before .before .before .before .before .contents .given .1) (c .before .before .before .before .before .before .before .before .before .before .before .before .before .«open» .ensures) in
-    let at = c .before .before .before .before .before .before .before .before .before .before .before .before .before .before .before .args in
-    let read = record-there (at .file .now) (at .number) (c .before .before .before .before .before .before .before .before .before .before .before .contents .given .0 .0 .table) (spool .2) (c .before .before .before .before .before .record-in .ensures) in
-    found (at .file .now) (at .number) (spool .0) (omega arith) (c .before .before .before .before .before .record-in .result) read (ap checked (sym (c .before .before .enum-told .given .1)) ∙ c .before .before .before .before .check-record .ensures) (sym (c .before .pixels-outside .ensures) ∙ c .if2 .left)
+    let at = c .before .before .before .before .before .before .before .before .before .before .before .args in
+    let spool = opened (at .file .now) (c .before .before .before .before .before .before .before .contents .given .1) (c .before .before .before .before .before .before .before .before .before .«open» .ensures) in
+    let short : length (at .file .now) < c .before .before .before .before .before .before .before .contents .given .0 .0 .table + 16 * at .number + 16 = subst (ReadsRecord (at .file .now) (c .before .before .before .before .before .before .before .contents .given .0 .0 .table + 16 * at .number)) (c .enum-told .given .1) (c .before .before .read-record .ensures) in
+    let room = record-inside (at .file .now) (at .number) (spool .0) (omega arith) in
+    absurd (omega arith)
 
 pub find-spec : {M : Type 1} → statement M
 find-spec =
@@ -104,15 +79,10 @@ find-spec =
     cast-at
     mul-at
     add-at
-    sub-record-in
-    part-record-in-start
-    part-record-in-end
-    record-in-requires
-    check-record-requires
-    enum-known-refusal-2
+    read-record-requires
+    enum-known-frame
+    frame-of-requires
     enum-told
-    pixels-outside-requires
     returns-2
     returns-3
-    returns-4
-    returns-5)
+    returns-4)

@@ -5,7 +5,7 @@ use native.Mathlib.Omega.{arith}
 use borrow.Author.Tests.{lt-ltb, le-ltb}
 use borrow.Author.Needs.{needs}
 use Rattle.spool.specs.Find.{pixelsOutside}
-use Rattle.spool.proofs.Sizes.{pixels-small}
+use Rattle.records.proofs.Sizes.{pixels-small}
 use Rattle.spool.proofs.pixels_outside.Statement.{statement}
 use Rattle.spool.proofs.pixels_outside.Tie as tie
 

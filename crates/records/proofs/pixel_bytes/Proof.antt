@@ -1,11 +1,11 @@
--- `spool::pixel_bytes` meets its contract.
+-- `records::pixel_bytes` meets its contract.
 -- Assumes nothing.
 use native.Mathlib.Nat.{lt-of-le-of-lt}
 use lib.Dec.{lit<}
 use borrow.Author.Needs.{needs}
-use Rattle.spool.proofs.Sizes.{area, pixels-small}
-use Rattle.spool.proofs.pixel_bytes.Statement.{statement}
-use Rattle.spool.proofs.pixel_bytes.Tie as tie
+use Rattle.records.proofs.Sizes.{area, pixels-small}
+use Rattle.records.proofs.pixel_bytes.Statement.{statement}
+use Rattle.records.proofs.pixel_bytes.Tie as tie
 
 cast-width : tie.Need-cast-width
 cast-width c = search needs

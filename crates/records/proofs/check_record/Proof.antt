@@ -1,11 +1,11 @@
--- `spool::check_record` meets its contract.
+-- `records::check_record` meets its contract.
 -- Assumes nothing.
 use mathlib.Core.Path.{sym}
 use borrow.Author.Tests.{not-true, not-false}
-use Rattle.spool.specs.Find.{recordFault}
+use Rattle.records.specs.Faults.{recordFault}
 use borrow.Author.Needs.{needs}
-use Rattle.spool.proofs.check_record.Statement.{statement}
-use Rattle.spool.proofs.check_record.Tie as tie
+use Rattle.records.proofs.check_record.Statement.{statement}
+use Rattle.records.proofs.check_record.Tie as tie
 
 is-pair-requires : tie.Need-is-pair-requires
 is-pair-requires c κs = search needs

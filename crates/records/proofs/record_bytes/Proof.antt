@@ -1,10 +1,10 @@
--- `kiosk::record_bytes` meets its contract: the bytes of each number, one number after another.
+-- `records::record_bytes` meets its contract: the bytes of each number, one number after another.
 -- Assumes nothing.
 use mathlib.Core.Path.{refl}
-use Rattle.layout.proofs.Written.{joined, one-byte}
+use Rattle.records.proofs.Fields.{joined, one-byte}
 use borrow.Author.Needs.{needs}
-use Rattle.kiosk.proofs.record_bytes.Statement.{statement}
-use Rattle.kiosk.proofs.record_bytes.Tie as tie
+use Rattle.records.proofs.record_bytes.Statement.{statement}
+use Rattle.records.proofs.record_bytes.Tie as tie
 
 four-bytes-requires : tie.Need-four-bytes-requires
 four-bytes-requires c κs = search needs

@@ -1,4 +1,4 @@
--- `spool::read_record` meets its contract: the part from the place on has the record's bytes.
+-- `records::read_record` meets its contract: the part from the place on has the record's bytes.
 -- Assumes nothing.
 use mathlib.Core.Path.{ap, _∙_}
 use native.Mathlib.Nat.{le-of-eq}
@@ -6,10 +6,10 @@ use native.Mathlib.Omega.{arith}
 use lib.ListN.{drop, length-drop}
 use lib.Seq.{take-all}
 use denote.Ref.{now}
-use Rattle.spool.specs.Layout.{recordIn}
+use Rattle.records.specs.Layout.{recordIn}
 use borrow.Author.Needs.{needs}
-use Rattle.spool.proofs.read_record.Statement.{statement}
-use Rattle.spool.proofs.read_record.Tie as tie
+use Rattle.records.proofs.read_record.Statement.{statement}
+use Rattle.records.proofs.read_record.Tie as tie
 
 returns : tie.Need-returns
 returns c = search needs

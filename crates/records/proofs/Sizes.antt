@@ -5,8 +5,8 @@ use native.Mathlib.Nat.{mul-le-mul}
 use native.Mathlib.Omega.{arith}
 use mathlib.Core.Bool.{Bool, true, false}
 use Rattle.samples.specs.Samples.{isWide, pixelSize}
-use Rattle.spool.specs.declared.FrameRecord.{FrameRecord}
-use Rattle.spool.specs.Layout.{pixelBytes}
+use Rattle.records.specs.declared.FrameRecord.{FrameRecord}
+use Rattle.records.specs.Faults.{pixelBytes}
 
 pub area : {w h : ℕ} → w < 2 ^ 16 → h < 2 ^ 16 → w * h ≤ 65535 * 65535
 area {w} {h} p q =

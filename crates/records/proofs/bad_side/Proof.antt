@@ -1,8 +1,8 @@
--- `spool::bad_side` meets its contract.
+-- `records::bad_side` meets its contract.
 -- Assumes nothing.
 use borrow.Author.Tests.{eq-eqb, ne-eqb}
-use Rattle.spool.proofs.bad_side.Statement.{statement}
-use Rattle.spool.proofs.bad_side.Tie as tie
+use Rattle.records.proofs.bad_side.Statement.{statement}
+use Rattle.records.proofs.bad_side.Tie as tie
 
 returns : tie.Need-returns
 returns c = simp (eq-eqb _ _ (c .if1 .taken))

@@ -1,9 +1,9 @@
--- `spool::is_pair` meets its contract.
+-- `records::is_pair` meets its contract.
 -- Assumes nothing.
 use borrow.Author.Tests.{ne-eqb}
 use borrow.Author.Needs.{needs}
-use Rattle.spool.proofs.is_pair.Statement.{statement}
-use Rattle.spool.proofs.is_pair.Tie as tie
+use Rattle.records.proofs.is_pair.Statement.{statement}
+use Rattle.records.proofs.is_pair.Tie as tie
 
 is-deep-requires : tie.Need-is-deep-requires
 is-deep-requires c κs = search needs

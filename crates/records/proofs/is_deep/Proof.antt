@@ -1,11 +1,11 @@
--- `spool::is_deep` meets its contract: what the number of bits names.
+-- `records::is_deep` meets its contract: what the number of bits names.
 -- Assumes nothing.
 use mathlib.Core.Path.{sym, ap, subst, _∙_}
 use Rattle.esrgb.specs.Depths.{offered, Names}
 use Rattle.esrgb.proofs.Scale.{offered-bits}
 use borrow.Author.Needs.{needs}
-use Rattle.spool.proofs.is_deep.Statement.{statement}
-use Rattle.spool.proofs.is_deep.Tie as tie
+use Rattle.records.proofs.is_deep.Statement.{statement}
+use Rattle.records.proofs.is_deep.Tie as tie
 
 depth-of-requires : tie.Need-depth-of-requires
 depth-of-requires c κs = search needs

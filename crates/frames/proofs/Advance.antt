@@ -6,10 +6,11 @@ use mathlib.Core.Bool.{Bool, true, false, cond, _||_}
 use mathlib.Core.List.{List}
 use lib.Dec.{eqb}
 use borrow.Author.Tests.{lt-ltb}
-use Rattle.spool.specs.declared.FrameRecord.{FrameRecord}
-use Rattle.spool.specs.Layout.{headerIn, isPair, badSide}
+use Rattle.records.specs.declared.FrameRecord.{FrameRecord}
+use Rattle.records.specs.Layout.{headerIn}
+use Rattle.records.specs.Faults.{isPair, badSide, recordFault}
 use Rattle.spool.specs.Open.{openFault}
-use Rattle.spool.specs.Find.{finds, refused, noRecord, recordFault, recordAt, pixelsOutside, findFault}
+use Rattle.spool.specs.Find.{finds, refused, noRecord, recordAt, pixelsOutside, findFault}
 use Rattle.frames.specs.Walk.{moved, nextNumber}
 
 -- Whatever is wrong with a record or its pixels, its number is above 5.

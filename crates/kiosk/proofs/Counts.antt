@@ -18,10 +18,9 @@ use Rattle.picture.specs.Forms.{bitsOf, isSheet, wideForm, source, offers}
 use Rattle.picture.specs.Convert.{pixelCount, needed, sourceSays, convertSays}
 use Rattle.linear.specs.Light.{offersLight}
 use Rattle.linear.specs.Operations.{codesToLightSays, lightToCodesSays}
-use Rattle.spool.specs.declared.FrameRecord.{FrameRecord}
-use Rattle.spool.specs.Layout.{frameLimit, pixelBytes}
-use Rattle.spool.specs.Find.{recordFault}
-use Rattle.spool.proofs.Sizes.{pixels-small}
+use Rattle.records.specs.declared.FrameRecord.{FrameRecord}
+use Rattle.records.specs.Faults.{frameLimit, pixelBytes, recordFault}
+use Rattle.records.proofs.Sizes.{pixels-small}
 use Rattle.layout.specs.LayOut.{lengthLimit, totalLength, layoutSays, judged as judged-records}
 use Rattle.kiosk.specs.Interface.{Countable}
 

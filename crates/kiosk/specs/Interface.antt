@@ -6,9 +6,10 @@ use mathlib.Core.List.{List, [], _∷_}
 use lib.ListN.{length, drop}
 use lib.IntN.{ℤ, pos, negℤ}
 use Rattle.refusal.specs.Answers.{Said, accepted, refused, refusedAt}
-use Rattle.spool.specs.declared.FrameRecord.{FrameRecord}
-use Rattle.spool.specs.Fields.{bytesOf}
-use Rattle.spool.specs.Layout.{recordSize, recordWidths, recordNumbers, recordIn, pixelBytes}
+use Rattle.records.specs.declared.FrameRecord.{FrameRecord}
+use Rattle.records.specs.Fields.{bytesOf}
+use Rattle.records.specs.Layout.{recordSize, recordWidths, recordNumbers, recordIn}
+use Rattle.records.specs.Faults.{pixelBytes}
 use Rattle.spool.specs.Open.{OpenSaid, opens, refused as open-refused}
 use Rattle.spool.specs.Find.{FindSaid, finds, refused as find-refused}
 

@@ -1,9 +1,4 @@
-pub mod Written
-pub mod Begun
 pub mod Relent
 pub mod Passes
-pub mod Laid
-pub mod Checking
-pub mod Writing
 pub mod Read
 pub mod RoundTrip

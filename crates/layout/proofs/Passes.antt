@@ -6,9 +6,9 @@ use mathlib.Core.Path.{_≡_, sym, ap, _∙_}
 use mathlib.Core.List.{List}
 use lib.ListN.{length, drop, getD, drop-of-length-le}
 use lib.Seq.{drop-cons}
-use Rattle.spool.specs.declared.FrameRecord.{FrameRecord}
+use Rattle.records.specs.declared.FrameRecord.{FrameRecord}
 use Rattle.spool.specs.Find.{noRecord}
-use Rattle.layout.specs.Pass.{State, visited, walked}
+use Rattle.placement.specs.Pass.{State, visited, walked}
 
 module _ (rs : List FrameRecord) (i : ℕ) (z : State) where
   pub one-more : i < length rs → walked (drop i rs) i z ≡ walked (drop (i + 1) rs) (i + 1) (visited z i (getD rs i noRecord))

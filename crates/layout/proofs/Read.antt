@@ -8,11 +8,11 @@ use lib.ListN.{length, take, drop, getD}
 use lib.Seq.{take-at, drop-at, drop-append-add}
 use Rattle.numbers.specs.Bytes.{littleEndian, lowBytes}
 use Rattle.numbers.proofs.Bytes.{held}
-use Rattle.spool.specs.declared.FrameRecord.{FrameRecord}
-use Rattle.spool.specs.Fields.{numbersIn, bytesOf}
-use Rattle.spool.specs.Layout.{recordWidths, recordNumbers, recordFrom, recordIn}
+use Rattle.records.specs.declared.FrameRecord.{FrameRecord}
+use Rattle.records.specs.Fields.{numbersIn, bytesOf}
+use Rattle.records.specs.Layout.{recordWidths, recordNumbers, recordFrom, recordIn, recordBytes}
 use Rattle.spool.specs.Find.{noRecord}
-use Rattle.layout.specs.LayOut.{tableBytes}
+use Rattle.placement.specs.LayOut.{tableBytes}
 use Rattle.layout.specs.RoundTrip.{Fit, FitAll}
 
 low-length : (w v : ℕ) → length (lowBytes w v) ≡ w
@@ -35,10 +35,10 @@ pub record-back : (rs : List FrameRecord) (k : ℕ) (rest : List ℕ) → FitAll
 unfolding recordIn
 record-back [] k rest h l = absurd (omega arith)
 record-back (r ∷ rs) zero rest h l =
-    ap recordIn (append-assoc (bytesOf recordWidths (recordNumbers r)) (tableBytes rs) rest)
+    ap recordIn (append-assoc (recordBytes r) (tableBytes rs) rest)
     ∙ ap recordFrom (read-back recordWidths (recordNumbers r) (tableBytes rs ++ rest) (h .0))
 record-back (r ∷ rs) (suc k) rest h l =
-    let b = bytesOf recordWidths (recordNumbers r) in
+    let b = recordBytes r in
     let next : 16 * suc k ≡ 16 + 16 * k = omega arith in
     ap (λ (n : ℕ). recordIn (drop n (tableBytes (r ∷ rs) ++ rest))) next
     ∙ ap (λ (bytes : List ℕ). recordIn (drop (16 + 16 * k) bytes)) (append-assoc b (tableBytes rs) rest)

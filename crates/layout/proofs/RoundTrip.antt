@@ -11,17 +11,18 @@ use lib.ListN.{length, getD, take, drop, length-append}
 use lib.Seq.{drop-append-add}
 use borrow.Author.Tests.{le-ltb, ltb-false, eqb-true}
 use Rattle.refusal.specs.Answers.{accepted, refused}
-use Rattle.spool.specs.declared.FrameRecord.{FrameRecord}
-use Rattle.spool.specs.declared.Header.{Header}
-use Rattle.spool.specs.Layout.{headerWidths, headerFrom, headerIn, recordIn, pixelBytes}
+use Rattle.records.specs.declared.FrameRecord.{FrameRecord}
+use Rattle.records.specs.declared.Header.{Header}
+use Rattle.records.specs.Layout.{headerWidths, headerFrom, headerIn, recordIn, headerBytes}
+use Rattle.records.specs.Faults.{pixelBytes, recordFault}
 use Rattle.spool.specs.Open.{openFault}
-use Rattle.spool.specs.Find.{finds, noRecord, recordFault, recordAt, pixelsOutside, findSays, pixelsStart, pixelsLength, FindSaid}
+use Rattle.spool.specs.Find.{finds, noRecord, recordAt, pixelsOutside, findSays, pixelsStart, pixelsLength, FindSaid}
 use Rattle.spool.proofs.OpenFaults.{no-fault}
-use Rattle.spool.proofs.FindFaults.{found}
-use Rattle.layout.specs.LayOut.{lengthLimit, pixelsFrom, allPixels, totalLength, layoutSays, withOffset, placed, tableBytes, headerBytes, layoutBytes}
+use Rattle.spool.proofs.FindFaults.{by-record, found}
+use Rattle.placement.specs.LayOut.{lengthLimit, pixelsFrom, allPixels, totalLength, layoutSays, withOffset, placed, tableBytes, headerOf, layoutBytes}
 use Rattle.layout.specs.RoundTrip.{FitAll, pixelPlace, Holds}
-use Rattle.layout.proofs.Checking.{Fine, none, one, Checked, faulty, fine, check}
-use Rattle.layout.proofs.Writing.{over-length, over-drop}
+use Rattle.placement.proofs.Checking.{Fine, none, one, Checked, faulty, fine, check}
+use Rattle.placement.proofs.Writing.{over-length, over-drop}
 use Rattle.layout.proofs.Read.{read-back, record-back}
 
 -- What holds where the layout is accepted.
@@ -93,7 +94,7 @@ module _ (rs : List FrameRecord) (shop : ℕ) (old : List ℕ) (fits : Fits rs (
   table = tableBytes (placed (pixelsFrom n) rs)
 
   abbrev head : List ℕ
-  head = headerBytes n shop total
+  head = headerBytes (headerOf n shop total)
 
   abbrev tail : List ℕ
   tail = drop (pixelsFrom n) old
@@ -156,7 +157,9 @@ module _ (rs : List FrameRecord) (shop : ℕ) (old : List ℕ) (fits : Fits rs (
 
     finds-it : findSays file k ≡ finds r
     finds-it =
-        sym (found file k opens-well (rw (← header-is) l) r record-is (sym (same-fault at (getD rs k noRecord) ∙ sound-at rs k (fits .sound) l)) inside)
+        sym
+        (found file r (sym (same-fault at (getD rs k noRecord) ∙ sound-at rs k (fits .sound) l)) inside
+        ∙ by-record file k opens-well (rw (← header-is) l) record-is)
 
   holds : Holds rs shop old file
   holds = record {

@@ -1,3 +1,1 @@
-pub mod LayOut
-pub mod Pass
 pub mod RoundTrip

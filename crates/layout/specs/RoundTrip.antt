@@ -4,11 +4,12 @@ use Prim.Native.Nat.{ℕ, _+_, _^_, _<_}
 use mathlib.Core.Path.{_≡_}
 use mathlib.Core.List.{List, [], _∷_}
 use lib.ListN.{length, getD, take, drop}
-use Rattle.spool.specs.declared.FrameRecord.{FrameRecord}
-use Rattle.spool.specs.Layout.{recordWidths, headerSize, recordNumbers, pixelBytes}
+use Rattle.records.specs.declared.FrameRecord.{FrameRecord}
+use Rattle.records.specs.Layout.{recordWidths, headerSize, recordNumbers}
+use Rattle.records.specs.Faults.{pixelBytes}
 use Rattle.spool.specs.Open.{opens, openSays}
 use Rattle.spool.specs.Find.{finds, noRecord, findSays, pixelsOf}
-use Rattle.layout.specs.LayOut.{pixelsFrom, allPixels, withOffset}
+use Rattle.placement.specs.LayOut.{pixelsFrom, allPixels, withOffset}
 
 -- Numbers that have these widths, in bytes.
 abbrev pub Fit : List ℕ → List ℕ → Type 0

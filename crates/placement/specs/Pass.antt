@@ -7,12 +7,11 @@ use mathlib.Core.List.{List, [], _∷_, _++_}
 use lib.ListN.{length, take, drop}
 use lib.Dec.{eqb, leb, ltb}
 use Rattle.refusal.specs.Answers.{Said, accepted, refused, refusedAt, said}
-use Rattle.spool.specs.declared.FrameRecord.{FrameRecord}
-use Rattle.spool.specs.Fields.{bytesOf}
-use Rattle.spool.specs.Layout.{recordWidths, headerSize, recordSize, recordNumbers, frameLimit, pixelBytes}
-use Rattle.spool.specs.Find.{recordFault}
-use Rattle.layout.specs.declared.Progress.{Progress}
-use Rattle.layout.specs.LayOut.{lengthLimit, pixelsFrom, headerBytes, withOffset}
+use Rattle.records.specs.declared.FrameRecord.{FrameRecord}
+use Rattle.records.specs.Layout.{headerSize, recordSize, headerBytes, recordBytes}
+use Rattle.records.specs.Faults.{frameLimit, pixelBytes, recordFault}
+use Rattle.placement.specs.declared.Progress.{Progress}
+use Rattle.placement.specs.LayOut.{lengthLimit, pixelsFrom, headerOf, withOffset}
 
 -- What a pass has: whether it writes, what it says so far, accepted with the offset behind the pixels placed so far, and
 -- the destination.
@@ -39,7 +38,7 @@ written writing place end r bytes =
     (cond (ltb place frameLimit)
     (cond (leb end lengthLimit)
     (cond (leb (recordPlace place + recordSize) (length bytes))
-    (take (recordPlace place) bytes ++ (bytesOf recordWidths (recordNumbers (withOffset end r)) ++ drop (recordPlace place + recordSize) bytes))
+    (take (recordPlace place) bytes ++ (recordBytes (withOffset end r) ++ drop (recordPlace place + recordSize) bytes))
     bytes)
     bytes)
     bytes)
@@ -74,7 +73,7 @@ begun count shop (accepted pixels) bytes =
     (record {
       writing = true;
       says = accepted (pixelsFrom count);
-      bytes = headerBytes count shop (pixelsFrom count + pixels) ++ drop headerSize bytes;
+      bytes = headerBytes (headerOf count shop (pixelsFrom count + pixels)) ++ drop headerSize bytes;
     })
     (stopped (refused 11) bytes))
 begun count shop (refused n) bytes = stopped (refused n) bytes

@@ -10,14 +10,13 @@ use lib.ListN.{length, take, drop, length-append, length-take, length-drop, take
 use lib.Seq.{take-at, drop-at, drop-drop}
 use borrow.Author.Tests.{le-ltb}
 use Rattle.refusal.specs.Answers.{accepted}
-use Rattle.spool.specs.declared.FrameRecord.{FrameRecord}
-use Rattle.spool.specs.Fields.{bytesOf}
-use Rattle.spool.specs.Layout.{recordWidths, recordNumbers, pixelBytes}
-use Rattle.spool.specs.Find.{recordFault}
-use Rattle.layout.specs.LayOut.{allPixels, withOffset, placed, tableBytes}
-use Rattle.layout.specs.Pass.{recordPlace, visited, walked}
-use Rattle.layout.proofs.Written.{in-place}
-use Rattle.layout.proofs.Checking.{Fine, none, one}
+use Rattle.records.specs.declared.FrameRecord.{FrameRecord}
+use Rattle.records.specs.Layout.{recordBytes}
+use Rattle.records.specs.Faults.{pixelBytes, recordFault}
+use Rattle.placement.specs.LayOut.{allPixels, withOffset, placed, tableBytes}
+use Rattle.placement.specs.Pass.{recordPlace, visited, walked}
+use Rattle.placement.proofs.Written.{in-place}
+use Rattle.placement.proofs.Checking.{Fine, none, one}
 
 -- Bytes written over a list from `at` to `end`: how long the list is, and what stands before and behind their end.
 abbrev pub over : List ℕ → List ℕ → ℕ → ℕ → List ℕ
@@ -44,20 +43,17 @@ module _ (d b : List ℕ) (at end : ℕ) (e : at + length b ≡ end) (h : end �
       ∙ drop-drop (k - end) end d
       ∙ ap (λ (m : ℕ). drop m d) (add-sub-of-le l)
 
-abbrev recordBytes : ℕ → FrameRecord → List ℕ
-recordBytes end r = bytesOf recordWidths (recordNumbers (withOffset end r))
-
 -- One record written, where it is sound and fits.
 module _ (r : FrameRecord) (i end : ℕ) (d : List ℕ) (few : i < 255) (small : end ≤ 4294967295) (room : recordPlace (i + 1) ≤ length d) where
   ends : recordPlace i + 16 ≡ recordPlace (i + 1)
   ends = omega arith
 
   write-one : recordFault r ≡ 0 → visited (record { writing = true; says = accepted end; bytes = d }) i r
-      ≡ record { writing = true; says = accepted (end + pixelBytes r); bytes = over d (recordBytes end r) (recordPlace i) (recordPlace (i + 1)) }
+      ≡ record { writing = true; says = accepted (end + pixelBytes r); bytes = over d (recordBytes (withOffset end r)) (recordPlace i) (recordPlace (i + 1)) }
   write-one sound =
       rw (sound, le-ltb _ _ small)
       (ap (λ (b : List ℕ). record { writing = true; says = accepted (end + pixelBytes r); bytes = b })
-      (in-place i end r d few small (omega arith) ∙ ap (λ (k : ℕ). take (recordPlace i) d ++ (recordBytes end r ++ drop k d)) ends))
+      (in-place i end r d few small (omega arith) ∙ ap (λ (k : ℕ). take (recordPlace i) d ++ (recordBytes (withOffset end r) ++ drop k d)) ends))
 
 pub write-all : (rs : List FrameRecord) (i end : ℕ) (d : List ℕ) → Fine rs → i + length rs ≤ 255 → end + allPixels rs ≤ 4294967295 → recordPlace (i + length rs) ≤ length d
     → walked rs i (record { writing = true; says = accepted end; bytes = d })
@@ -69,7 +65,7 @@ write-all (r ∷ rs) i end d (one sound rest) few small room =
     let low : i < 255 = omega arith in
     let fits : end ≤ 4294967295 = omega arith in
     let next : recordPlace (i + 1) ≤ length d = omega arith in
-    let b = recordBytes end r in
+    let b = recordBytes (withOffset end r) in
     let e = ends r i end d low fits next in
     let d′ = over d b (recordPlace i) (recordPlace (i + 1)) in
     let long : length d′ ≡ length d = over-length d b (recordPlace i) (recordPlace (i + 1)) e next in

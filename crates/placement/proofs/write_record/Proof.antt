@@ -1,16 +1,16 @@
--- `layout::write_record` meets its contract.
+-- `placement::write_record` meets its contract.
 -- Assumes nothing.
-use Prim.Native.Nat.{_+_, _*_}
+use Prim.Native.Nat.{_+_, _-_, _*_}
+use lib.ListN.{length, take, drop}
 use native.Mathlib.Omega.{arith}
 use mathlib.Core.Path.{sym, _∙_}
 use borrow.Author.Tests.{not-true, not-false}
+use Rattle.records.specs.Layout.{recordBytes}
+use Rattle.placement.specs.LayOut.{withOffset}
+use Rattle.placement.proofs.Written.{copied, put-there, not-writing, past-limit, past-length, no-room, in-place}
 use borrow.Author.Needs.{needs}
-use Rattle.spool.specs.Fields.{bytesOf}
-use Rattle.spool.specs.Layout.{recordWidths, recordNumbers}
-use Rattle.layout.specs.LayOut.{withOffset}
-use Rattle.layout.proofs.Written.{put-there, not-writing, past-limit, past-length, no-room, in-place}
-use Rattle.layout.proofs.write_record.Statement.{statement}
-use Rattle.layout.proofs.write_record.Tie as tie
+use Rattle.placement.proofs.write_record.Statement.{statement}
+use Rattle.placement.proofs.write_record.Tie as tie
 
 returns : tie.Need-returns
 returns c = rw (not-true (c .before .before .args .writing) (c .if1 .taken)) (not-writing (c .before .before .args .place) (c .before .before .args .end) (c .before .before .args .frame) (c .before .before .args .dst .now))
@@ -36,27 +36,34 @@ returns-4 c = rw (not-false (c .before .before .before .before .before .args .wr
 cast-placed : tie.Need-cast-placed
 cast-placed c = search needs
 
-sub-put-record : tie.Need-sub-put-record
-sub-put-record c = search needs
+record-bytes-requires : tie.Need-record-bytes-requires
+record-bytes-requires c κs = search needs
 
-part-put-record-start : tie.Need-part-put-record-start
-part-put-record-start c = search needs
+slice-aggregate-copy : tie.Need-slice-aggregate-copy
+slice-aggregate-copy c = search needs
 
-part-put-record-end : tie.Need-part-put-record-end
-part-put-record-end c = search needs
+sub-copy : tie.Need-sub-copy
+sub-copy c = search needs
 
-put-record-requires : tie.Need-put-record-requires
-put-record-requires c κs = search needs
+part-copy-start : tie.Need-part-copy-start
+part-copy-start c = search needs
+
+part-copy-end : tie.Need-part-copy-end
+part-copy-end c = search needs
+
+copy-requires : tie.Need-copy-requires
+copy-requires c κs = search needs
 
 same-length : tie.Need-same-length
 same-length c = search needs
 
 returns-5 : tie.Need-returns-5
 returns-5 c =
-    let at = c .before .before .before .before .before .before .before .before .before .args in
-    rw (not-false (c .before .before .before .before .before .before .before .before .before .args .writing) (c .before .before .before .before .before .before .before .if1 .left))
-    (put-there (at .dst .now) (bytesOf recordWidths (recordNumbers (withOffset (at .end) (at .frame)))) (c .before .before .put-record .last .0) (12 + 16 * at .place) 16 (omega arith) (c .before .before .put-record .ensures)
-    ∙ sym (in-place (c .before .before .before .before .before .before .before .before .before .args .place) (c .before .before .before .before .before .before .before .before .before .args .end) (c .before .before .before .before .before .before .before .before .before .args .frame) (c .before .before .before .before .before .before .before .before .before .args .dst .now) (c .before .before .before .before .before .before .if2 .left) (c .before .before .before .before .before .if3 .left) (c .before .before .before .before .if4 .left)))
+    let at = c .before .before .before .before .before .before .before .before .before .before .before .args in
+    let bytes = copied (take (length (at .dst .now) - (12 + 16 * at .place)) (drop (12 + 16 * at .place) (at .dst .now))) (c .before .before .before .before .before .record-bytes .ensures) (c .before .before .copy .ensures .1) in
+    rw (not-false (c .before .before .before .before .before .before .before .before .before .before .before .args .writing) (c .before .before .before .before .before .before .before .before .before .if1 .left))
+    (put-there (at .dst .now) (recordBytes (withOffset (at .end) (at .frame))) (c .before .before .copy .last .1 .0) (12 + 16 * at .place) 16 (omega arith) bytes
+    ∙ sym (in-place (at .place) (at .end) (at .frame) (at .dst .now) (c .before .before .before .before .before .before .before .before .if2 .left) (c .before .before .before .before .before .before .before .if3 .left) (c .before .before .before .before .before .before .if4 .left)))
 
 pub write-record-spec : {M : Type 1} → statement M
 write-record-spec =
@@ -70,9 +77,11 @@ write-record-spec =
     add-if4
     returns-4
     cast-placed
-    sub-put-record
-    part-put-record-start
-    part-put-record-end
-    put-record-requires
+    record-bytes-requires
+    slice-aggregate-copy
+    sub-copy
+    part-copy-start
+    part-copy-end
+    copy-requires
     same-length
     returns-5)

@@ -6,10 +6,10 @@ use mathlib.Core.List.{List, [], _∷_, _++_}
 use lib.ListN.{length, drop}
 use lib.Dec.{eqb, ltb}
 use Rattle.refusal.specs.Answers.{Said, accepted, refused, refusedAt}
-use Rattle.spool.specs.declared.FrameRecord.{FrameRecord}
-use Rattle.spool.specs.Fields.{bytesOf}
-use Rattle.spool.specs.Layout.{headerWidths, recordWidths, headerSize, recordSize, recordNumbers, frameLimit, pixelBytes}
-use Rattle.spool.specs.Find.{recordFault}
+use Rattle.records.specs.declared.FrameRecord.{FrameRecord}
+use Rattle.records.specs.declared.Header.{Header}
+use Rattle.records.specs.Layout.{headerSize, recordSize, headerBytes, recordBytes}
+use Rattle.records.specs.Faults.{frameLimit, pixelBytes, recordFault}
 
 -- "14 total length above 4,294,967,295": the greatest length that a header can say.
 abbrev pub lengthLimit : ℕ
@@ -53,14 +53,14 @@ placed at (r ∷ rs) = withOffset at r ∷ placed (at + pixelBytes r) rs
 
 abbrev pub tableBytes : List FrameRecord → List ℕ
 tableBytes [] = []
-tableBytes (r ∷ rs) = bytesOf recordWidths (recordNumbers r) ++ tableBytes rs
+tableBytes (r ∷ rs) = recordBytes r ++ tableBytes rs
 
--- The header of a spool with so many frames, of this shop and total length.
-abbrev pub headerBytes : ℕ → ℕ → ℕ → List ℕ
-headerBytes count shop total = bytesOf headerWidths (count ∷ shop ∷ headerSize ∷ total ∷ [])
+-- The header of a spool with so many frames, of this shop and total length: "table at 12".
+abbrev pub headerOf : ℕ → ℕ → ℕ → Header
+headerOf count shop total = record { count = count; shop = shop; table = headerSize; length = total }
 
 -- "It writes header (table at 12) and table, .. and leaves the pixel bytes as found."
 unfoldable pub layoutBytes : List FrameRecord → ℕ → List ℕ → List ℕ
 layoutBytes rs shop found =
-    headerBytes (length rs) shop (totalLength rs)
+    headerBytes (headerOf (length rs) shop (totalLength rs))
     ++ (tableBytes (placed (pixelsFrom (length rs)) rs) ++ drop (pixelsFrom (length rs)) found)

@@ -1,13 +1,13 @@
--- `layout::visit` meets its contract.
+-- `placement::visit` meets its contract.
 -- Assumes nothing.
 use mathlib.Core.Path.{sym, ap, _∙_}
 use borrow.Author.Needs.{needs}
-use Rattle.spool.specs.Find.{checked}
-use Rattle.spool.proofs.Sizes.{pixels-small}
-use Rattle.layout.specs.Pass.{grown}
-use Rattle.layout.proofs.Written.{visit-faulty, visit-sound, visit-refused, visit-refused-at}
-use Rattle.layout.proofs.visit.Statement.{statement}
-use Rattle.layout.proofs.visit.Tie as tie
+use Rattle.records.specs.Faults.{checked}
+use Rattle.records.proofs.Sizes.{pixels-small}
+use Rattle.placement.specs.Pass.{grown}
+use Rattle.placement.proofs.Written.{visit-faulty, visit-sound, visit-refused, visit-refused-at}
+use Rattle.placement.proofs.visit.Statement.{statement}
+use Rattle.placement.proofs.visit.Tie as tie
 
 enum-known-answer : tie.Need-enum-known-answer
 enum-known-answer c = search needs

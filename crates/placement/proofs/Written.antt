@@ -1,33 +1,28 @@
--- What storing a header, a record and one record's visit leave.
+-- What storing a record and one record's visit leave.
 -- Assumes nothing.
 use Prim.Native.Nat.{ℕ, _+_, _-_, _≤_, _<_}
-use native.Mathlib.Nat.{le-of-eq, mod-eq-of-lt}
+use native.Mathlib.Nat.{le-of-eq}
 use mathlib.Core.Path.{_≡_, refl, sym, ap, _∙_}
 use mathlib.Core.Bool.{true, false}
 use mathlib.Core.List.{List, [], _∷_, _++_, append-nil}
 use lib.ListN.{length, take, drop, length-drop}
 use lib.Seq.{take-all, drop-drop, drop-length}
 use borrow.Author.Tests.{lt-ltb, le-ltb, le-leb, lt-leb}
-use Rattle.numbers.specs.Bytes.{lowBytes}
 use Rattle.refusal.specs.declared.Refusal.{Refusal}
 use Rattle.refusal.specs.declared.Answer.the-variants.{Done, Refused, RefusedAt}
 use Rattle.refusal.specs.Refusals.{numberOf}
-use Rattle.spool.specs.declared.FrameRecord.{FrameRecord}
-use Rattle.spool.specs.Fields.{bytesOf}
-use Rattle.spool.specs.Layout.{recordWidths, recordNumbers, pixelBytes}
-use Rattle.spool.specs.Find.{recordFault}
+use Rattle.records.specs.declared.FrameRecord.{FrameRecord}
+use Rattle.records.specs.Layout.{recordBytes}
+use Rattle.records.specs.Faults.{pixelBytes, recordFault}
 use Rattle.refusal.proofs.Numbers.{numbered}
-use Rattle.layout.specs.declared.Progress.{Progress}
-use Rattle.layout.specs.LayOut.{withOffset}
-use Rattle.layout.specs.Pass.{stateOf, grown, recordPlace, written, visited}
+use Rattle.placement.specs.declared.Progress.{Progress}
+use Rattle.placement.specs.LayOut.{withOffset}
+use Rattle.placement.specs.Pass.{stateOf, grown, recordPlace, written, visited}
 
--- One list after another, each with what it equals.
-pub joined : {a b c d : List ℕ} → a ≡ b → c ≡ d → a ++ c ≡ b ++ d
-joined {a} {b} {c} {d} p q = ap (λ (x : List ℕ). x ++ c) p ∙ ap (λ (x : List ℕ). b ++ x) q
-
--- A byte is its own low byte.
-pub one-byte : (v : ℕ) → v < 256 → v ∷ [] ≡ lowBytes 1 v
-one-byte v h = rw (mod-eq-of-lt h)
+-- Bytes copied to the start of a list.
+pub copied : (d : List ℕ) {bytes b d′ : List ℕ} → bytes ≡ b → d′ ≡ take (length bytes) bytes ++ drop (length bytes) d → d′ ≡ b ++ drop (length b) d
+copied d {bytes} {b} e f =
+    f ∙ rw e (ap (λ (x : List ℕ). x ++ drop (length b) d) (take-all (length b) b (le-of-eq refl)))
 
 -- A part from `at` to the end, of which the first bytes were written anew.
 pub put-there : (d b part : List ℕ) (at n : ℕ) → at ≤ length d → part ≡ b ++ drop n (take (length d - at) (drop at d))
@@ -58,7 +53,7 @@ module _ (place end : ℕ) (r : FrameRecord) (d : List ℕ) where
   no-room h l s = simp (lt-ltb _ _ h, le-leb _ _ l, lt-leb _ _ s)
 
   pub in-place : place < 255 → end ≤ 4294967295 → recordPlace place + 16 ≤ length d
-      → written true place end r d ≡ take (recordPlace place) d ++ (bytesOf recordWidths (recordNumbers (withOffset end r)) ++ drop (recordPlace place + 16) d)
+      → written true place end r d ≡ take (recordPlace place) d ++ (recordBytes (withOffset end r) ++ drop (recordPlace place + 16) d)
   unfolding written
   in-place h l s = simp (lt-ltb _ _ h, le-leb _ _ l, le-leb _ _ s)
 

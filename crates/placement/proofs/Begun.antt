@@ -9,9 +9,10 @@ use borrow.Author.Tests.{lt-ltb, le-ltb, eq-eqb, ne-eqb}
 use Rattle.refusal.specs.declared.Answer.{Answer}
 use Rattle.refusal.specs.declared.Answer.the-variants.{Done}
 use Rattle.refusal.specs.Answers.{Said, accepted, refused, said}
-use Rattle.layout.specs.declared.Progress.{Progress}
-use Rattle.layout.specs.LayOut.{pixelsFrom, headerBytes}
-use Rattle.layout.specs.Pass.{stateOf, stopped, begun, readied}
+use Rattle.records.specs.Layout.{headerBytes}
+use Rattle.placement.specs.declared.Progress.{Progress}
+use Rattle.placement.specs.LayOut.{pixelsFrom, headerOf}
+use Rattle.placement.specs.Pass.{stateOf, stopped, begun, readied}
 
 pub stop-state : (d : List ℕ) {p : Progress} {a : Answer} → (p .writing ≡ false) × (p .answer ≡ a) → stateOf p d ≡ stopped (said a) d
 stop-state d h = rw (h .0, h .1)
@@ -24,7 +25,7 @@ module _ (count shop pixels : ℕ) (d : List ℕ) where
     pub begin-wrong-room : (length d ≡ pixelsFrom count + pixels → ⊥) → stopped (refused 11) d ≡ begun count shop (accepted pixels) d
     begin-wrong-room h = simp (le-ltb _ _ fits, ne-eqb _ _ h)
 
-    pub begin-writes : {d′ : List ℕ} → length d ≡ pixelsFrom count + pixels → d′ ≡ headerBytes count shop (pixelsFrom count + pixels) ++ drop 12 d
+    pub begin-writes : {d′ : List ℕ} → length d ≡ pixelsFrom count + pixels → d′ ≡ headerBytes (headerOf count shop (pixelsFrom count + pixels)) ++ drop 12 d
         → stateOf (record { writing = true; answer = Done (pixelsFrom count) }) d′ ≡ begun count shop (accepted pixels) d
     begin-writes h e = rw (e, le-ltb _ _ fits, eq-eqb _ _ h)
 

@@ -12,12 +12,13 @@ use borrow.Author.Tests.{lt-ltb, le-ltb, ltb-true, ltb-false, eqb-true}
 use Rattle.refusal.specs.declared.Answer.{Answer}
 use Rattle.refusal.specs.declared.Answer.the-variants.{Done}
 use Rattle.refusal.specs.Answers.{Said, accepted, refused, refusedAt, said, leaves}
-use Rattle.spool.specs.declared.FrameRecord.{FrameRecord}
-use Rattle.layout.specs.declared.Progress.{Progress}
-use Rattle.layout.specs.LayOut.{lengthLimit, pixelsFrom, allPixels, totalLength, judged, layoutSays, placed, tableBytes, headerBytes, layoutBytes}
-use Rattle.layout.specs.Pass.{State, stateOf, recordPlace, walked, stopped, readied, laid}
-use Rattle.layout.proofs.Checking.{stays-refused, stays-refused-at, Fine, summed, Checked, faulty, fine, check, sum-fits, sum-past}
-use Rattle.layout.proofs.Writing.{over-length, over-take, over-drop, write-all}
+use Rattle.records.specs.declared.FrameRecord.{FrameRecord}
+use Rattle.records.specs.Layout.{headerBytes}
+use Rattle.placement.specs.declared.Progress.{Progress}
+use Rattle.placement.specs.LayOut.{lengthLimit, pixelsFrom, allPixels, totalLength, judged, layoutSays, placed, tableBytes, headerOf, layoutBytes}
+use Rattle.placement.specs.Pass.{State, stateOf, recordPlace, walked, stopped, readied, laid}
+use Rattle.placement.proofs.Checking.{stays-refused, stays-refused-at, Fine, summed, Checked, faulty, fine, check, sum-fits, sum-past}
+use Rattle.placement.proofs.Writing.{over-length, over-take, over-drop, write-all}
 
 -- What the contract of `lay_out` says.
 abbrev pub LaidOut : List FrameRecord → ℕ → List ℕ → Answer → List ℕ → Type 0
@@ -67,10 +68,10 @@ module _ (rs : List FrameRecord) (shop : ℕ) (old : List ℕ) where
 
   module _ (few : n ≤ 255) where
     written-out : Fine rs → total ≤ 4294967295 → length old ≡ total
-        → Ends (walked rs 0 (record { writing = true; says = accepted (pixelsFrom n); bytes = headerBytes n shop total ++ drop 12 old })) (accepted total) (layoutBytes rs shop old)
+        → Ends (walked rs 0 (record { writing = true; says = accepted (pixelsFrom n); bytes = headerBytes (headerOf n shop total) ++ drop 12 old })) (accepted total) (layoutBytes rs shop old)
     unfolding layoutBytes
     written-out good small room =
-        let head = headerBytes n shop total in
+        let head = headerBytes (headerOf n shop total) in
         let e : 0 + length head ≡ 12 = refl in
         let h : 12 ≤ length old = omega arith in
         let long : length (head ++ drop 12 old) ≡ length old = over-length old head 0 12 e h in

@@ -1,0 +1,2 @@
+pub mod LayOut
+pub mod Pass

@@ -53,17 +53,6 @@ abbrev pub findAnswer : FindSaid → ℤ
 findAnswer (finds r) = pos (pixelBytes r)
 findAnswer (find-refused k r) = minus k
 
-abbrev pub recordBytes : FrameRecord → List ℕ
-recordBytes r = bytesOf recordWidths (recordNumbers r)
-
 abbrev pub findRecord : FindSaid → List ℕ
 findRecord (finds r) = recordBytes r
 findRecord (find-refused k r) = recordBytes r
-
--- Records as bytes: the first so many, and as many as are whole.
-unfoldable pub firstRecords : ℕ → List ℕ → List FrameRecord
-firstRecords zero bytes = []
-firstRecords (suc count) bytes = recordIn bytes ∷ firstRecords count (drop recordSize bytes)
-
-abbrev pub recordsIn : List ℕ → List FrameRecord
-recordsIn bytes = firstRecords (length bytes / recordSize) bytes

@@ -293,43 +293,6 @@ pub extern "C" fn kiosk_step(file: &[u8], next: &mut usize, frame: &mut [u8; 16]
     found_as(found, frame)
 }
 
-// Layout's pass over records, here over their bytes: C has no slice of structs to lend. No record of the count
-// is ever short, which the proof shows.
-fn pass(records: &[u8], dst: &mut [u8], start: Progress) -> Progress
-    ensures { λ r. ⌜ stateOf r (now (dst .exit)) ≡ walked (recordsIn (now (records .entry))) 0 (stateOf start (now (dst .entry))) ⌝ }
-{
-    let count = records.len() / RECORD_SIZE;
-    let mut progress = start;
-    let mut place = 0;
-    while place < count {
-        let at = RECORD_SIZE * place;
-        let read = read_record(records, at);
-        match read {
-            Read::Record(frame) => {
-                progress = visit(dst, progress, place, frame);
-            }
-            Read::Short => {
-                return progress;
-            }
-        }
-        place += 1;
-    }
-    progress
-}
-
-// Lays out a spool, by the same steps as `layout::lay_out`.
-fn laid_out(records: &[u8], shop: u16, dst: &mut [u8]) -> Answer
-    ensures answer { λ r. ⌜ said r ≡ layoutSays (recordsIn (now (records .entry))) (length (now (dst .entry))) ⌝ }
-    ensures bytes { λ _. ⌜ now (dst .exit) ≡ leaves (layoutSays (recordsIn (now (records .entry))) (length (now (dst .entry)))) (layoutBytes (recordsIn (now (records .entry))) shop (now (dst .entry))) (now (dst .entry)) ⌝ }
-{
-    let start = unchecked();
-    let checked = pass(records, dst, start);
-    let next = ready(checked, records.len() / RECORD_SIZE, shop, dst);
-    let ended = pass(records, dst, next);
-    let answer = ended.answer;
-    answer
-}
-
 // Lays out a spool of records that are given as their bytes, 16 each; bytes that make no whole record are
 // not looked at.
 #[no_mangle]

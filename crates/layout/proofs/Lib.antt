@@ -1,4 +1,5 @@
 pub mod Relent
 pub mod Passes
+pub mod Packed
 pub mod Read
 pub mod RoundTrip

@@ -10,10 +10,10 @@ use Rattle.records.specs.declared.FrameRecord.{FrameRecord}
 use Rattle.records.specs.Layout.{recordIn}
 use mathlib.Core.Bool.{false}
 use Rattle.refusal.specs.declared.Answer.the-variants.{Done}
-use Rattle.layout.specs.declared.Progress.{Progress}
-use Rattle.layout.specs.Pass.{State, stateOf, visited, walked, readied, laid}
-use Rattle.layout.proofs.Laid.{LaidOut, start-state, is-laid}
-use Rattle.kiosk.specs.Interface.{firstRecords, recordsIn}
+use Rattle.placement.specs.declared.Progress.{Progress}
+use Rattle.placement.specs.Pass.{State, stateOf, visited, walked, readied, laid}
+use Rattle.placement.proofs.Laid.{LaidOut, start-state, is-laid}
+use Rattle.layout.specs.Packed.{firstRecords, recordsIn}
 
 -- The records from number `place` on, of `count` in all.
 abbrev pub left : ℕ → List ℕ → ℕ → List FrameRecord

@@ -1,4 +1,4 @@
--- `kiosk::pass` meets its contract. The invariant: what is left of the records gives the whole.
+-- `layout::pass_packed` meets its contract. The invariant: what is left of the records gives the whole.
 -- Assumes nothing.
 use Prim.Native.Nat.{_-_, _*_, _+_, _<_}
 use mathlib.Core.Path.{ap, subst, _∙_}
@@ -6,11 +6,11 @@ use native.Mathlib.Omega.{arith}
 use lib.ListN.{length}
 use denote.Ref.{now}
 use borrow.Author.Needs.{needs}
-use Rattle.spool.specs.Layout.{Reads}
-use Rattle.layout.specs.Pass.{stateOf, visited}
-use Rattle.kiosk.proofs.Records.{Passing, passing-start, passing-more, passed}
-use Rattle.kiosk.proofs.pass.Statement.{statement}
-use Rattle.kiosk.proofs.pass.Tie as tie
+use Rattle.records.specs.Layout.{ReadsRecord}
+use Rattle.placement.specs.Pass.{stateOf, visited}
+use Rattle.layout.proofs.Packed.{Passing, passing-start, passing-more, passed}
+use Rattle.layout.proofs.pass_packed.Statement.{statement}
+use Rattle.layout.proofs.pass_packed.Tie as tie
 
 abbrev Inv-loop : tie.InvT-loop
 Inv-loop records dst₀ count progress₀ place₀ dst progress place = Passing records (stateOf progress₀ dst₀) (stateOf progress dst) place
@@ -43,7 +43,7 @@ returns : tie.Need-returns Inv-loop μ-loop
 returns c =
     let at = c .before .before .before .before in
     let bytes = now (at .before .before .before .args .records) in
-    let short : length bytes < 16 * at .loop .place + 16 = subst (Reads bytes (16 * at .loop .place)) (c .enum-told .given .1) (c .before .before .read-record .ensures) in
+    let short : length bytes < 16 * at .loop .place + 16 = subst (ReadsRecord bytes (16 * at .loop .place)) (c .enum-told .given .1) (c .before .before .read-record .ensures) in
     absurd (omega arith)
 
 add-place : tie.Need-add-place Inv-loop μ-loop
@@ -59,7 +59,7 @@ loop-again c =
     let step = c .before .before .visit in
     let bytes = now (start .records) in
     let state = stateOf (at .loop .progress) (at .loop .dst) in
-    let read = subst (Reads bytes (16 * at .loop .place)) (c .before .before .before .before .before .read .given .1) (c .before .before .before .before .before .before .before .read-record .ensures) in
+    let read = subst (ReadsRecord bytes (16 * at .loop .place)) (c .before .before .before .before .before .read .given .1) (c .before .before .before .before .before .before .before .read-record .ensures) in
     passing-more bytes (stateOf (start .start) (now (start .dst))) state (stateOf (step .result) (step .last .0)) (at .loop .place) (at .loop .inv)
     (omega arith)
     (step .ensures ∙ ap (visited state (at .loop .place)) (read .1))
@@ -71,8 +71,8 @@ same-length-2 c = c .before .loop .inv .same
 returns-2 : tie.Need-returns-2 Inv-loop μ-loop
 returns-2 c = passed (now (c .before .before .before .before .args .records)) _ _ (c .before .loop .place) (c .before .loop .inv) (omega arith)
 
-pub pass-spec : {M : Type 1} → statement M
-pass-spec =
+pub pass-packed-spec : {M : Type 1} → statement M
+pass-packed-spec =
     tie.close
     (tie.spec
     Inv-loop

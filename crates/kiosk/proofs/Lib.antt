@@ -1,3 +1,3 @@
 pub mod Signed
 pub mod Counts
-pub mod Records
+pub mod Giving

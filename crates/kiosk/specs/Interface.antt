@@ -1,15 +1,16 @@
--- What the C interface gives for what an operation says: a count or minus the refusal's number, the place, and a record as the
--- 16 bytes that it has in a spool file.
+-- What C gets of what an operation says: a count or minus the refusal's number, the place, and a record as the 16 bytes that it
+-- has in a spool file.
 -- Assumes nothing.
-use Prim.Native.Nat.{ℕ, zero, suc, _/_, _^_, _<_}
-use mathlib.Core.List.{List, [], _∷_}
-use lib.ListN.{length, drop}
+use Prim.Native.Nat.{ℕ, _^_, _<_}
+use mathlib.Core.Path.{_≡_}
+use mathlib.Core.List.{List}
+use lib.ListN.{length}
 use lib.IntN.{ℤ, pos, negℤ}
-use Rattle.refusal.specs.Answers.{Said, accepted, refused, refusedAt}
-use Rattle.records.specs.declared.FrameRecord.{FrameRecord}
-use Rattle.records.specs.Fields.{bytesOf}
-use Rattle.records.specs.Layout.{recordSize, recordWidths, recordNumbers, recordIn}
+use Rattle.refusal.specs.Answers.{Said, accepted, refused, refusedAt, leaves}
+use Rattle.records.specs.Layout.{recordBytes}
 use Rattle.records.specs.Faults.{pixelBytes}
+use Rattle.picture.specs.declared.Conversion.{Conversion}
+use Rattle.picture.specs.Convert.{convertSays, converted}
 use Rattle.spool.specs.Open.{OpenSaid, opens, refused as open-refused}
 use Rattle.spool.specs.Find.{FindSaid, finds, refused as find-refused}
 
@@ -27,6 +28,17 @@ abbrev pub placeOf : Said → ℕ → ℕ
 placeOf (accepted n) before = before
 placeOf (refused k) before = before
 placeOf (refusedAt k at) before = at
+
+-- C's answer r to an operation that says this and would write `new`, with the destination and the place as the call finds them
+-- and, marked ′, as it leaves them.
+pub record Gives {A : Type 0} (says : Said) (new : List A) (r : ℤ) (dst dst′ : List A) (place place′ : ℕ) : Type 0 where
+  pub answer : r ≡ answerOf says
+  pub content : dst′ ≡ leaves says new dst
+  pub at : place′ ≡ placeOf says place
+
+-- The same of a conversion.
+abbrev pub Converts : Conversion → List ℕ → ℤ → List ℕ → List ℕ → ℕ → ℕ → Type 0
+Converts c src r dst dst′ place place′ = Gives (convertSays c src (length dst)) (converted c src) r dst dst′ place place′
 
 -- A count that a signed number of 64 bits holds.
 abbrev pub Countable : Said → Type 0

@@ -2,41 +2,33 @@
 // include/kiosk.h. It promises that C gets exactly what the operation says, as a count or minus the
 // refusal's number, and exactly its bytes; it asks nothing of a caller that C's types do not say.
 use frames::step_from;
-use layout::Progress;
-use layout::ready;
-use layout::unchecked;
-use layout::visit;
+use layout::lay_out_packed;
 use linear::code_to_light;
 use linear::light_to_code;
-use numbers::four_bytes;
-use numbers::two_bytes;
 use picture::Conversion;
 use picture::convert;
+use records::FrameRecord;
+use records::pixel_bytes;
+use records::record_bytes;
 use refusal::Answer;
 use refusal::Refusal;
 use refusal::number;
 use roundtrip::round_trip;
 use spool::Found;
-use records::FrameRecord;
 use spool::Opened;
-use records::RECORD_SIZE;
-use spool::Read;
 use spool::find;
 use spool::open;
-use records::pixel_bytes;
-use records::read_record;
 ghost use mathlib.Core.Path.{_≡_};
 ghost use lib.ListN.{length};
 ghost use Rattle.refusal.specs.Refusals.{numberOf};
 ghost use Rattle.refusal.specs.Answers.{said, leaves};
-ghost use Rattle.picture.specs.Convert.{convertSays, convertBytes};
 ghost use Rattle.linear.specs.Operations.{codesToLightSays, codesToLight, lightToCodesSays, lightToCodes};
 ghost use Rattle.spool.specs.Open.{openSays};
 ghost use Rattle.spool.specs.Find.{findSaid, findSays};
 ghost use Rattle.frames.specs.Walk.{nextNumber};
-ghost use Rattle.layout.specs.LayOut.{layoutSays, layoutBytes};
-ghost use Rattle.layout.specs.Pass.{stateOf, walked};
-ghost use Rattle.kiosk.specs.Interface.{minus, answerOf, placeOf, Countable, openAnswer, openShop, openTable, findAnswer, recordBytes, findRecord, recordsIn};
+ghost use Rattle.placement.specs.LayOut.{layoutSays, layoutBytes};
+ghost use Rattle.layout.specs.Packed.{recordsIn};
+ghost use Rattle.kiosk.specs.Interface.{minus, answerOf, placeOf, Gives, Converts, Countable, openAnswer, openShop, openTable, findAnswer, findRecord};
 
 // A refusal, as C gets it.
 fn refused(refusal: Refusal) -> i64
@@ -64,9 +56,7 @@ fn answered(answer: Answer, place: &mut usize) -> i64
 // ---- Convert
 
 fn converted(conversion: Conversion, src: &[u8], dst: &mut [u8], place: &mut usize) -> i64
-    ensures value { λ r. ⌜ r ≡ answerOf (convertSays conversion (now (src .entry)) (length (now (dst .entry)))) ⌝ }
-    ensures bytes { λ _. ⌜ now (dst .exit) ≡ convertBytes conversion (now (src .entry)) (now (dst .entry)) ⌝ }
-    ensures at { λ _. ⌜ now (place .exit) ≡ placeOf (convertSays conversion (now (src .entry)) (length (now (dst .entry)))) (now (place .entry)) ⌝ }
+    ensures { λ r. ⌜ Converts conversion (now (src .entry)) r (now (dst .entry)) (now (dst .exit)) (now (place .entry)) (now (place .exit)) ⌝ }
 {
     let answer = convert(conversion, src, dst);
     answered(answer, place)
@@ -75,9 +65,7 @@ fn converted(conversion: Conversion, src: &[u8], dst: &mut [u8], place: &mut usi
 // 8-bit sRGB to e-sRGB.
 #[no_mangle]
 pub extern "C" fn kiosk_from_srgb(depth: u32, src: &[u8], dst: &mut [u8], place: &mut usize) -> i64
-    ensures value { λ r. ⌜ r ≡ answerOf (convertSays (Conversion.FromSrgb depth) (now (src .entry)) (length (now (dst .entry)))) ⌝ }
-    ensures bytes { λ _. ⌜ now (dst .exit) ≡ convertBytes (Conversion.FromSrgb depth) (now (src .entry)) (now (dst .entry)) ⌝ }
-    ensures at { λ _. ⌜ now (place .exit) ≡ placeOf (convertSays (Conversion.FromSrgb depth) (now (src .entry)) (length (now (dst .entry)))) (now (place .entry)) ⌝ }
+    ensures { λ r. ⌜ Converts (Conversion.FromSrgb depth) (now (src .entry)) r (now (dst .entry)) (now (dst .exit)) (now (place .entry)) (now (place .exit)) ⌝ }
 {
     converted(Conversion::FromSrgb { depth }, src, dst, place)
 }
@@ -85,9 +73,7 @@ pub extern "C" fn kiosk_from_srgb(depth: u32, src: &[u8], dst: &mut [u8], place:
 // E-sRGB to 8-bit sRGB.
 #[no_mangle]
 pub extern "C" fn kiosk_to_srgb(depth: u32, src: &[u8], dst: &mut [u8], place: &mut usize) -> i64
-    ensures value { λ r. ⌜ r ≡ answerOf (convertSays (Conversion.ToSrgb depth) (now (src .entry)) (length (now (dst .entry)))) ⌝ }
-    ensures bytes { λ _. ⌜ now (dst .exit) ≡ convertBytes (Conversion.ToSrgb depth) (now (src .entry)) (now (dst .entry)) ⌝ }
-    ensures at { λ _. ⌜ now (place .exit) ≡ placeOf (convertSays (Conversion.ToSrgb depth) (now (src .entry)) (length (now (dst .entry)))) (now (place .entry)) ⌝ }
+    ensures { λ r. ⌜ Converts (Conversion.ToSrgb depth) (now (src .entry)) r (now (dst .entry)) (now (dst .exit)) (now (place .entry)) (now (place .exit)) ⌝ }
 {
     converted(Conversion::ToSrgb { depth }, src, dst, place)
 }
@@ -101,9 +87,7 @@ pub extern "C" fn kiosk_change_depth(
     dst: &mut [u8],
     place: &mut usize,
 ) -> i64
-    ensures value { λ r. ⌜ r ≡ answerOf (convertSays (Conversion.ChangeDepth from to) (now (src .entry)) (length (now (dst .entry)))) ⌝ }
-    ensures bytes { λ _. ⌜ now (dst .exit) ≡ convertBytes (Conversion.ChangeDepth from to) (now (src .entry)) (now (dst .entry)) ⌝ }
-    ensures at { λ _. ⌜ now (place .exit) ≡ placeOf (convertSays (Conversion.ChangeDepth from to) (now (src .entry)) (length (now (dst .entry)))) (now (place .entry)) ⌝ }
+    ensures { λ r. ⌜ Converts (Conversion.ChangeDepth from to) (now (src .entry)) r (now (dst .entry)) (now (dst .exit)) (now (place .entry)) (now (place .exit)) ⌝ }
 {
     converted(Conversion::ChangeDepth { from, to }, src, dst, place)
 }
@@ -116,9 +100,7 @@ pub extern "C" fn kiosk_to_luma_chroma(
     dst: &mut [u8],
     place: &mut usize,
 ) -> i64
-    ensures value { λ r. ⌜ r ≡ answerOf (convertSays (Conversion.ToLumaChroma depth) (now (src .entry)) (length (now (dst .entry)))) ⌝ }
-    ensures bytes { λ _. ⌜ now (dst .exit) ≡ convertBytes (Conversion.ToLumaChroma depth) (now (src .entry)) (now (dst .entry)) ⌝ }
-    ensures at { λ _. ⌜ now (place .exit) ≡ placeOf (convertSays (Conversion.ToLumaChroma depth) (now (src .entry)) (length (now (dst .entry)))) (now (place .entry)) ⌝ }
+    ensures { λ r. ⌜ Converts (Conversion.ToLumaChroma depth) (now (src .entry)) r (now (dst .entry)) (now (dst .exit)) (now (place .entry)) (now (place .exit)) ⌝ }
 {
     converted(Conversion::ToLumaChroma { depth }, src, dst, place)
 }
@@ -131,9 +113,7 @@ pub extern "C" fn kiosk_from_luma_chroma(
     dst: &mut [u8],
     place: &mut usize,
 ) -> i64
-    ensures value { λ r. ⌜ r ≡ answerOf (convertSays (Conversion.FromLumaChroma depth) (now (src .entry)) (length (now (dst .entry)))) ⌝ }
-    ensures bytes { λ _. ⌜ now (dst .exit) ≡ convertBytes (Conversion.FromLumaChroma depth) (now (src .entry)) (now (dst .entry)) ⌝ }
-    ensures at { λ _. ⌜ now (place .exit) ≡ placeOf (convertSays (Conversion.FromLumaChroma depth) (now (src .entry)) (length (now (dst .entry)))) (now (place .entry)) ⌝ }
+    ensures { λ r. ⌜ Converts (Conversion.FromLumaChroma depth) (now (src .entry)) r (now (dst .entry)) (now (dst .exit)) (now (place .entry)) (now (place .exit)) ⌝ }
 {
     converted(Conversion::FromLumaChroma { depth }, src, dst, place)
 }
@@ -148,9 +128,7 @@ pub extern "C" fn kiosk_code_to_light(
     dst: &mut [i32],
     place: &mut usize,
 ) -> i64
-    ensures value { λ r. ⌜ r ≡ answerOf (codesToLightSays depth (now (src .entry)) (length (now (dst .entry)))) ⌝ }
-    ensures numbers { λ _. ⌜ now (dst .exit) ≡ leaves (codesToLightSays depth (now (src .entry)) (length (now (dst .entry)))) (codesToLight depth (now (src .entry))) (now (dst .entry)) ⌝ }
-    ensures at { λ _. ⌜ now (place .exit) ≡ placeOf (codesToLightSays depth (now (src .entry)) (length (now (dst .entry)))) (now (place .entry)) ⌝ }
+    ensures { λ r. ⌜ Gives (codesToLightSays depth (now (src .entry)) (length (now (dst .entry)))) (codesToLight depth (now (src .entry))) r (now (dst .entry)) (now (dst .exit)) (now (place .entry)) (now (place .exit)) ⌝ }
 {
     let answer = code_to_light(depth, src, dst);
     answered(answer, place)
@@ -181,12 +159,8 @@ pub extern "C" fn kiosk_round_trip(
     again: &mut i64,
     again_place: &mut usize,
 ) -> i64
-    ensures value { λ r. ⌜ r ≡ answerOf (convertSays (Conversion.ToLumaChroma depth) (now (codes .entry)) (length (now (sheet .entry)))) ⌝ }
-    ensures sheet { λ _. ⌜ now (sheet .exit) ≡ convertBytes (Conversion.ToLumaChroma depth) (now (codes .entry)) (now (sheet .entry)) ⌝ }
-    ensures back { λ _. ⌜ now (back .exit) ≡ convertBytes (Conversion.FromLumaChroma depth) (now (sheet .exit)) (now (back .entry)) ⌝ }
-    ensures at { λ _. ⌜ now (place .exit) ≡ placeOf (convertSays (Conversion.ToLumaChroma depth) (now (codes .entry)) (length (now (sheet .entry)))) (now (place .entry)) ⌝ }
-    ensures again { λ _. ⌜ now (again .exit) ≡ answerOf (convertSays (Conversion.FromLumaChroma depth) (now (sheet .exit)) (length (now (back .entry)))) ⌝ }
-    ensures again_at { λ _. ⌜ now («again_place» .exit) ≡ placeOf (convertSays (Conversion.FromLumaChroma depth) (now (sheet .exit)) (length (now (back .entry)))) (now («again_place» .entry)) ⌝ }
+    ensures there { λ r. ⌜ Converts (Conversion.ToLumaChroma depth) (now (codes .entry)) r (now (sheet .entry)) (now (sheet .exit)) (now (place .entry)) (now (place .exit)) ⌝ }
+    ensures again { λ _. ⌜ Converts (Conversion.FromLumaChroma depth) (now (sheet .exit)) (now (again .exit)) (now (back .entry)) (now (back .exit)) (now («again_place» .entry)) (now («again_place» .exit)) ⌝ }
 {
     let trip = round_trip(depth, codes, sheet, back);
     let first = trip.there;
@@ -213,35 +187,6 @@ pub extern "C" fn kiosk_open(file: &[u8], shop: &mut u16, table: &mut u32) -> i6
         }
         Opened::Refused(refusal) => refused(refusal),
     }
-}
-
-// A record as the 16 bytes that it has in a spool file.
-fn record_bytes(frame: FrameRecord) -> [u8; 16]
-    ensures { λ r. ⌜ r ≡ recordBytes frame ⌝ }
-{
-    let offset = four_bytes(frame.offset);
-    let width = two_bytes(frame.width);
-    let height = two_bytes(frame.height);
-    let copies = two_bytes(frame.copies);
-    let order = four_bytes(frame.order);
-    [
-        offset.a,
-        offset.b,
-        offset.c,
-        offset.d,
-        width.low,
-        width.high,
-        height.low,
-        height.high,
-        frame.kind,
-        frame.bits,
-        copies.low,
-        copies.high,
-        order.a,
-        order.b,
-        order.c,
-        order.d,
-    ]
 }
 
 // What is found, as C gets it: the length of the frame's pixels, and the record.
@@ -297,10 +242,8 @@ pub extern "C" fn kiosk_step(file: &[u8], next: &mut usize, frame: &mut [u8; 16]
 // not looked at.
 #[no_mangle]
 pub extern "C" fn kiosk_lay_out(records: &[u8], shop: u16, dst: &mut [u8], place: &mut usize) -> i64
-    ensures value { λ r. ⌜ r ≡ answerOf (layoutSays (recordsIn (now (records .entry))) (length (now (dst .entry)))) ⌝ }
-    ensures bytes { λ _. ⌜ now (dst .exit) ≡ leaves (layoutSays (recordsIn (now (records .entry))) (length (now (dst .entry)))) (layoutBytes (recordsIn (now (records .entry))) shop (now (dst .entry))) (now (dst .entry)) ⌝ }
-    ensures at { λ _. ⌜ now (place .exit) ≡ placeOf (layoutSays (recordsIn (now (records .entry))) (length (now (dst .entry)))) (now (place .entry)) ⌝ }
+    ensures { λ r. ⌜ Gives (layoutSays (recordsIn (now (records .entry))) (length (now (dst .entry)))) (layoutBytes (recordsIn (now (records .entry))) shop (now (dst .entry))) r (now (dst .entry)) (now (dst .exit)) (now (place .entry)) (now (place .exit)) ⌝ }
 {
-    let answer = laid_out(records, shop, dst);
+    let answer = lay_out_packed(records, shop, dst);
     answered(answer, place)
 }

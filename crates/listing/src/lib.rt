@@ -2,10 +2,10 @@
 // 01's listing for any file; it asks nothing of a caller. A buffer that is too small gets as much of
 // the text as it has room for.
 use frames::step_from;
+use records::FrameRecord;
 use refusal::Refusal;
 use refusal::number;
 use spool::Found;
-use records::FrameRecord;
 use spool::Opened;
 use spool::open;
 ghost use mathlib.Core.Path.{_≡_};

@@ -1,12 +1,12 @@
 -- `kiosk::converted` meets its contract: Convert's two clauses, and what C gets of its answer.
 -- Assumes nothing.
-use mathlib.Core.Path.{sym, ap, subst, _∙_}
+use mathlib.Core.Path.{sym, subst, _∙_}
 use native.Mathlib.Omega.{arith}
 use denote.Ref.{now}
 use lib.ListN.{length}
 use mir.ValLaws.{toZ-ofZ}
-use Rattle.refusal.specs.Answers.{Said}
-use Rattle.kiosk.specs.Interface.{answerOf, placeOf, Countable}
+use Rattle.kiosk.specs.Interface.{Countable}
+use Rattle.kiosk.proofs.Giving.{converts}
 use Rattle.kiosk.proofs.Counts.{convert-counts}
 use borrow.Author.Needs.{needs}
 use Rattle.kiosk.proofs.converted.Statement.{statement}
@@ -27,13 +27,9 @@ same-length c = search needs
 returns : tie.Need-returns
 returns c =
     let start = c .before .before .before .before .before .before .before .before in
-    let done = c .before .before .before .before .convert .ensures in (
-      toZ-ofZ _ _ (record { sfits = c .answered .ok }) ∙ c .answered .ensures .0 ∙ ap answerOf (done .0),
-      (
-        done .1,
-        c .answered .ensures .1 ∙ ap (λ (s : Said). placeOf s (now (start .args .place))) (done .0),
-      ),
-    )
+    let done = c .before .before .before .before .convert .ensures in
+    converts (start .args .conversion) (now (start .args .src)) (now (start .args .dst)) (now (start .args .place)) (done .0) (done .1)
+    (toZ-ofZ _ _ (record { sfits = c .answered .ok }) ∙ c .answered .ensures .0) (c .answered .ensures .1)
 
 pub converted-spec : {M : Type 1} → statement M
 converted-spec = tie.close (tie.spec convert-requires answered-requires same-length returns)

@@ -1,14 +1,14 @@
 -- `kiosk::kiosk_round_trip` meets its contract: two calls of Convert, and what C gets of their answers.
 -- Assumes nothing.
-use mathlib.Core.Path.{sym, ap, subst, _∙_}
+use mathlib.Core.Path.{sym, subst, _∙_}
 use Prim.Native.Nat.{_<_, _^_}
 use native.Mathlib.Omega.{arith}
 use denote.Ref.{now}
 use lib.ListN.{length}
 use mir.ValLaws.{toZ-ofZ}
-use Rattle.refusal.specs.Answers.{Said}
 use Rattle.picture.specs.declared.Conversion.the-variants.{ToLumaChroma, FromLumaChroma}
-use Rattle.kiosk.specs.Interface.{answerOf, placeOf, Countable}
+use Rattle.kiosk.specs.Interface.{Countable}
+use Rattle.kiosk.proofs.Giving.{converts}
 use Rattle.kiosk.proofs.Counts.{convert-counts}
 use borrow.Author.Needs.{needs}
 use Rattle.kiosk.proofs.kiosk_round_trip.Statement.{statement}
@@ -43,20 +43,10 @@ returns c =
     let start = c .before .before .before .before .before .before .before .before .before .before .before .before .before .before in
     let trip = c .before .before .before .before .before .before .before .before .round-trip .ensures in
     let again = c .before .before .answered in (
-      toZ-ofZ _ _ (record { sfits = c .answered2 .ok }) ∙ c .answered2 .ensures .0 ∙ ap answerOf (trip .there .says),
-      (
-        trip .there .bytes,
-        (
-          trip .again .bytes,
-          (
-            c .answered2 .ensures .1 ∙ ap (λ (s : Said). placeOf s (now (start .args .place))) (trip .there .says),
-            (
-              toZ-ofZ _ _ (record { sfits = again .ok }) ∙ again .ensures .0 ∙ ap answerOf (trip .again .says),
-              again .ensures .1 ∙ ap (λ (s : Said). placeOf s (now (start .args .again-place))) (trip .again .says),
-            ),
-          ),
-        ),
-      ),
+      converts (ToLumaChroma (start .args .depth)) (now (start .args .codes)) (now (start .args .sheet)) (now (start .args .place)) (trip .there .says) (trip .there .bytes)
+          (toZ-ofZ _ _ (record { sfits = c .answered2 .ok }) ∙ c .answered2 .ensures .0) (c .answered2 .ensures .1),
+      converts (FromLumaChroma (start .args .depth)) _ (now (start .args .back)) (now (start .args .again-place)) (trip .again .says) (trip .again .bytes)
+          (toZ-ofZ _ _ (record { sfits = again .ok }) ∙ again .ensures .0) (again .ensures .1),
     )
 
 pub kiosk-round-trip-spec : {M : Type 1} → statement M

@@ -1,6 +1,6 @@
-// Linear light, both ways, at 10 and 12 bits: e-sRGB codes to signed millionths of reference white,
-// and such numbers to codes. For every input it promises the answer and every number or byte of the
-// destination, as document 01 and PIMA 7667 define them, and asks nothing of a caller.
+// Linear light in buffers, both ways, at 10 and 12 bits: e-sRGB codes to signed millionths of reference
+// white, and such numbers to codes. For every input it promises the answer and every number or byte of
+// the destination, by what `transfer` defines for one sample, and asks nothing of a caller.
 use esrgb::Depth;
 use esrgb::greatest_of;
 use esrgb::step_of;

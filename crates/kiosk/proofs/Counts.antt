@@ -16,7 +16,7 @@ use Rattle.esrgb.specs.Depths.{greatest}
 use Rattle.picture.specs.declared.Conversion.{Conversion}
 use Rattle.picture.specs.Forms.{bitsOf, isSheet, wideForm, source, offers}
 use Rattle.picture.specs.Convert.{pixelCount, needed, sourceSays, convertSays}
-use Rattle.linear.specs.Light.{offersLight}
+use Rattle.transfer.specs.Light.{offersLight}
 use Rattle.linear.specs.Operations.{codesToLightSays, lightToCodesSays}
 use Rattle.records.specs.declared.FrameRecord.{FrameRecord}
 use Rattle.records.specs.Faults.{frameLimit, pixelBytes, recordFault}

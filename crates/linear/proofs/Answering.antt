@@ -10,7 +10,7 @@ use lib.Dec.{ltb}
 use lib.ListN.{getD}
 use Rattle.refusal.specs.Answers.{Said, accepted, refused, refusedAt, leaves}
 use Rattle.samples.specs.Faults.{faulty, sound, fault, decides, judged}
-use Rattle.linear.specs.Light.{offersLight}
+use Rattle.transfer.specs.Light.{offersLight}
 
 -- ---- an answer, and what it leaves in the destination
 abbrev pub Answered : {A : Type 0} → Said → Said → List A → List A → List A → Type 0

@@ -11,9 +11,9 @@ use lib.IntN.{ℤ, pos, negsuc, negℤ, natAbs}
 use lib.Signed.{ltZ}
 use Rattle.esrgb.specs.Depths.{step}
 use Rattle.esrgb.proofs.Scale.{Scale}
-use Rattle.linear.specs.Light.{scale, lightOfLevel, lightOfCode}
-use Rattle.linear.specs.Level.{levelOfLight, codeOfLight}
-use Rattle.linear.specs.Tables.{levels}
+use Rattle.transfer.specs.Light.{scale, lightOfLevel, lightOfCode}
+use Rattle.transfer.specs.Level.{levelOfLight, codeOfLight}
+use Rattle.transfer.specs.Tables.{levels}
 use Rattle.linear.proofs.Sign.{not-negative}
 
 -- The light of the distance, with the sign, is the light of the code.

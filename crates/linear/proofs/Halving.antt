@@ -10,9 +10,9 @@ use lib.Dec.{leb}
 use lib.ListN.{length, getD}
 use Rattle.esrgb.specs.Depths.{step}
 use Rattle.esrgb.proofs.Scale.{Scale}
-use Rattle.linear.specs.Light.{scale}
-use Rattle.linear.specs.Level.{levelOfLight}
-use Rattle.linear.specs.Tables.{levels, ThresholdTable}
+use Rattle.transfer.specs.Light.{scale}
+use Rattle.transfer.specs.Level.{levelOfLight}
+use Rattle.transfer.specs.Tables.{levels, ThresholdTable}
 
 -- The level looked for: that of the light, at most the greatest of a code.
 abbrev pub found : ℕ → ℕ → ℕ

@@ -1,12 +1,5 @@
-pub mod Search
-pub mod Every
-pub mod Light
-pub mod Scaling
-pub mod Level
-pub mod Bounds
 pub mod Sign
 pub mod Codes
 pub mod Halving
 pub mod Writing
 pub mod Answering
-pub mod Examples

@@ -1,5 +1,1 @@
-pub mod Search
-pub mod Light
-pub mod Level
-pub mod Tables
 pub mod Operations

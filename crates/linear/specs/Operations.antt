@@ -10,8 +10,8 @@ use Rattle.refusal.specs.Answers.{Said, accepted}
 use Rattle.samples.specs.Samples.{pixelSize, sampleCount, twoByTwo, bytesOf}
 use Rattle.samples.specs.Faults.{inOrder, judged}
 use Rattle.esrgb.specs.Depths.{greatest}
-use Rattle.linear.specs.Light.{offersLight, lightOfCode}
-use Rattle.linear.specs.Level.{codeOfLight}
+use Rattle.transfer.specs.Light.{offersLight, lightOfCode}
+use Rattle.transfer.specs.Level.{codeOfLight}
 
 -- "Light answers as Convert does: code to light has 9 (only 10 and 12), 10, 11, 12 .. Lengths of light are counted in
 -- numbers." The source is bytes, two to a sample, and the destination has room for so many numbers.

@@ -1,9 +1,6 @@
-// Linear light, both ways, at 10 and 12 bits: e-sRGB codes to signed millionths of reference white,
-// and such numbers to codes. For every input it promises the answer and every number or byte of the
-// destination, as document 01 and PIMA 7667 define them, and asks nothing of a caller.
-mod table;
-mod thresholds;
-
+// Linear light in buffers, both ways, at 10 and 12 bits: e-sRGB codes to signed millionths of reference
+// white, and such numbers to codes. For every input it promises the answer and every number or byte of
+// the destination, by what `transfer` defines for one sample, and asks nothing of a caller.
 use esrgb::Depth;
 use esrgb::greatest_of;
 use esrgb::step_of;
@@ -12,9 +9,9 @@ use numbers::two_bytes;
 use refusal::Answer;
 use refusal::Refusal;
 use samples::judge;
-use table::light_table;
-use thresholds::thresholds_at_ten;
-use thresholds::thresholds_at_twelve;
+use transfer::table::light_table;
+use transfer::thresholds::thresholds_at_ten;
+use transfer::thresholds::thresholds_at_twelve;
 ghost use mathlib.Core.Path.{_≡_};
 ghost use mathlib.Core.Bool.{true, cond};
 ghost use mathlib.Core.List.{map};
@@ -25,9 +22,9 @@ ghost use lib.IntN.{pos, negℤ, natAbs};
 ghost use Rattle.refusal.specs.Answers.{said, leaves};
 ghost use Rattle.samples.specs.Samples.{twoByTwo};
 ghost use Rattle.esrgb.specs.Depths.{bits};
-ghost use Rattle.linear.specs.Light.{offersLight, scale, lightOfCode};
-ghost use Rattle.linear.specs.Level.{levelOfLight, codeOfLight};
-ghost use Rattle.linear.specs.Tables.{levels, LightTable, ThresholdTable};
+ghost use Rattle.transfer.specs.Light.{offersLight, scale, lightOfCode};
+ghost use Rattle.transfer.specs.Level.{levelOfLight, codeOfLight};
+ghost use Rattle.transfer.specs.Tables.{levels, LightTable, ThresholdTable};
 ghost use Rattle.linear.specs.Operations.{codesToLightSays, codesToLight, lightToCodesSays, lightToCodes};
 
 // Codes to light: from two-byte samples, three to a pixel, to a number each. A depth other than 10

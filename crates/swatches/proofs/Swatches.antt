@@ -4,7 +4,7 @@ use mathlib.Core.Path.{refl}
 use Rattle.numbers.specs.Rounding.{nearest, nearestDown}
 use Rattle.esrgb.specs.Codes.{fromSrgb, toSrgb}
 use Rattle.lumachroma.specs.LumaChroma.{luma, chroma, blueChroma, redChroma, clipped, redBack, greenBack, blueBack}
-use Rattle.linear.proofs.Examples.{light-examples, code-examples}
+use Rattle.transfer.proofs.Examples.{light-examples, code-examples}
 use Rattle.swatches.specs.Swatches.{AllHold, done, _&_, swatches}
 
 pub all-hold : AllHold swatches

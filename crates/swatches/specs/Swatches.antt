@@ -10,8 +10,8 @@ use Rattle.esrgb.specs.Codes.{fromSrgb, toSrgb}
 use Rattle.picture.specs.declared.Conversion.{Conversion}
 use Rattle.picture.specs.declared.Conversion.the-variants.{FromSrgb, ToSrgb, ToLumaChroma}
 use Rattle.picture.specs.Convert.{each, lumaChromaOf, rgbOf, pixelOf}
-use Rattle.linear.specs.Light.{lightOfCode}
-use Rattle.linear.specs.Level.{codeOfLight}
+use Rattle.transfer.specs.Light.{lightOfCode}
+use Rattle.transfer.specs.Level.{codeOfLight}
 
 -- A swatch: an operation, its input, and what the page prints. Single samples stand three to a pixel.
 pub data Swatch : Type 0 where

@@ -7,7 +7,7 @@ use native.Mathlib.Omega.{arith}
 use lib.IntN.{natAbs}
 use Rattle.esrgb.specs.Depths.{bits}
 use Rattle.esrgb.proofs.Scale.{scale}
-use Rattle.linear.specs.Level.{codeOfLight}
+use Rattle.transfer.specs.Level.{codeOfLight}
 use Rattle.linear.proofs.Sign.{read, test-is}
 use Rattle.linear.proofs.Codes.{code-below, code-above}
 use borrow.Author.Needs.{needs}

@@ -17,7 +17,7 @@ use Rattle.esrgb.specs.Depths.{bits}
 use Rattle.esrgb.proofs.Scale.{scale}
 use Rattle.linear.specs.Operations.{codesToLightSays, codesToLight}
 use Rattle.linear.proofs.Answering.{Answered, answered, refuses, accepted-within}
-use Rattle.linear.proofs.Scaling.{Up, up, up-fits, up-lights}
+use Rattle.transfer.proofs.Scaling.{Up, up, up-fits, up-lights}
 use borrow.Author.Needs.{needs}
 use Rattle.linear.proofs.codes_to_light.Statement.{statement}
 use Rattle.linear.proofs.codes_to_light.Tie as tie

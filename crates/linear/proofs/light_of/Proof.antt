@@ -3,8 +3,8 @@
 use mathlib.Core.Path.{_∙_, ap}
 use native.Mathlib.Omega.{arith}
 use mir.ValLaws.{toZ-ofZ}
-use Rattle.linear.specs.Light.{scale, lightOfLevel}
-use Rattle.linear.proofs.Light.{light-small}
+use Rattle.transfer.specs.Light.{scale, lightOfLevel}
+use Rattle.transfer.proofs.Light.{light-small}
 use Rattle.linear.proofs.Codes.{light-at-distance}
 use borrow.Author.Needs.{needs}
 use Rattle.linear.proofs.light_of.Statement.{statement}

@@ -10,7 +10,7 @@ use lib.IntN.{pos}
 use mir.ValLaws.{toZ-ofZ}
 use Rattle.numbers.specs.Bytes.{lowBytes}
 use Rattle.esrgb.specs.Depths.{bits}
-use Rattle.linear.specs.Level.{codeOfLight}
+use Rattle.transfer.specs.Level.{codeOfLight}
 use Rattle.linear.specs.Operations.{lightToCodes}
 use Rattle.linear.proofs.Writing.{Written, written-more, written-all, take-two}
 use borrow.Author.Needs.{needs}

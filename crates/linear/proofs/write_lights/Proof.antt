@@ -12,7 +12,7 @@ use mir.Val.{toZ, ofZ}
 use mir.ValLaws.{toZ-ofZ}
 use Rattle.samples.specs.Samples.{twoByTwo}
 use Rattle.samples.proofs.Reading.{length-two, two-at}
-use Rattle.linear.specs.Light.{lightOfCode}
+use Rattle.transfer.specs.Light.{lightOfCode}
 use Rattle.linear.proofs.Writing.{Written, written-more, written-all, take-one}
 use borrow.Author.Needs.{needs}
 use Rattle.linear.proofs.write_lights.Statement.{statement}

@@ -7,10 +7,10 @@ use native.Mathlib.Omega.{arith}
 use lib.IntN.{pos, negsuc, negℤ}
 use Rattle.numbers.specs.Rounding.{nearest}
 use Rattle.esrgb.specs.Depths.{offset}
-use Rattle.linear.specs.Light.{scale, reachesLight, lightOfCode}
-use Rattle.linear.specs.Level.{reachesLevel, levelOfLight, codeOfLight}
-use Rattle.linear.proofs.Light.{isLight, light-is}
-use Rattle.linear.proofs.Level.{isFrom, isBelow, level-from, level-below}
+use Rattle.transfer.specs.Light.{scale, reachesLight, lightOfCode}
+use Rattle.transfer.specs.Level.{reachesLevel, levelOfLight, codeOfLight}
+use Rattle.transfer.proofs.Light.{isLight, light-is}
+use Rattle.transfer.proofs.Level.{isFrom, isBelow, level-from, level-below}
 
 -- "Light at 12 bits, levels 1, −1, 82, 2,040: 38, −38, 3,111, 1,000,000. Level 20 at 10 bits: 3,035." negsuc 37 is −38.
 pub light-examples :

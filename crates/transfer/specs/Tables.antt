@@ -5,8 +5,8 @@ use mathlib.Core.Path.{_≡_}
 use mathlib.Core.List.{List}
 use lib.ListN.{length, getD}
 use Rattle.esrgb.specs.Depths.{offset}
-use Rattle.linear.specs.Light.{scale, lightOfLevel}
-use Rattle.linear.specs.Level.{levelOfLight}
+use Rattle.transfer.specs.Light.{scale, lightOfLevel}
+use Rattle.transfer.specs.Level.{levelOfLight}
 
 -- How many levels from 0 up the codes of a depth have.
 abbrev pub levels : ℕ → ℕ

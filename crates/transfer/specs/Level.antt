@@ -6,8 +6,8 @@ use lib.Dec.{leb}
 use lib.IntN.{ℤ, pos, negsuc}
 use Rattle.numbers.specs.Rounding.{nearest}
 use Rattle.esrgb.specs.Depths.{greatest, offset}
-use Rattle.linear.specs.Search.{lastPassing}
-use Rattle.linear.specs.Light.{scale}
+use Rattle.transfer.specs.Search.{lastPassing}
+use Rattle.transfer.specs.Light.{scale}
 
 -- Below, S is a scale and q a light without its sign: y is q ÷ 1,000,000.
 

@@ -10,12 +10,12 @@ use borrow.Author.Tests.{leb-true, leb-false, le-leb, ltb-true, eqb-true, not-tr
 use lib.Dec.{leb, ltb, eqb}
 use lib.ListN.{length, getD}
 use Rattle.numbers.specs.Rounding.{nearest}
-use Rattle.linear.specs.Search.{lastPassing}
-use Rattle.linear.specs.Light.{scale}
-use Rattle.linear.specs.Level.{lowLight, reachesLevel, beyondLevels, levelOfLight}
-use Rattle.linear.specs.Tables.{levels, Threshold, ThresholdTable}
-use Rattle.linear.proofs.Search.{Falls, last-from, last-below, last-rises}
-use Rattle.linear.proofs.Every.{every, passes-at}
+use Rattle.transfer.specs.Search.{lastPassing}
+use Rattle.transfer.specs.Light.{scale}
+use Rattle.transfer.specs.Level.{lowLight, reachesLevel, beyondLevels, levelOfLight}
+use Rattle.transfer.specs.Tables.{levels, Threshold, ThresholdTable}
+use Rattle.transfer.proofs.Search.{Falls, last-from, last-below, last-rises}
+use Rattle.transfer.proofs.Every.{every, passes-at}
 
 pub reaches-level-falls : (S q : ℕ) → Falls (reachesLevel S q)
 unfolding reachesLevel

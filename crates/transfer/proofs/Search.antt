@@ -5,7 +5,7 @@ use mathlib.Core.Path.{_≡_, refl, sym, ap, _∙_}
 use mathlib.Core.Bool.{Bool, true, false, false≢true, cond}
 use native.Mathlib.Omega.{arith}
 use native.Mathlib.Decide.{decLe}
-use Rattle.linear.specs.Search.{lastPassing}
+use Rattle.transfer.specs.Search.{lastPassing}
 
 -- What is below a number that passes, passes.
 abbrev pub Falls : (ℕ → Bool) → Type 0

@@ -6,7 +6,7 @@ use lib.Dec.{eqb, leb, ltb}
 use lib.IntN.{ℤ, pos, negℤ}
 use Rattle.numbers.specs.Rounding.{nearest}
 use Rattle.esrgb.specs.Depths.{offset, step}
-use Rattle.linear.specs.Search.{lastPassing}
+use Rattle.transfer.specs.Search.{lastPassing}
 
 -- "Light .. is offered at 10 and 12 bits."
 abbrev pub offersLight : ℕ → Bool

@@ -9,13 +9,13 @@ use borrow.Author.Tests.{lt-leb}
 use lib.Dec.{lit<}
 use Rattle.esrgb.specs.Depths.{offset}
 use Rattle.esrgb.proofs.Scale.{Scale}
-use Rattle.linear.specs.Search.{lastPassing}
-use Rattle.linear.specs.Light.{scale, reachesLight, greatestLight}
-use Rattle.linear.specs.Level.{reachesLevel, beyondLevels}
-use Rattle.linear.proofs.Search.{last-beyond}
-use Rattle.linear.proofs.Light.{reaches-light-falls}
-use Rattle.linear.proofs.Level.{reaches-level-falls}
-use Rattle.linear.proofs.Scaling.{pow-mul, pow-some}
+use Rattle.transfer.specs.Search.{lastPassing}
+use Rattle.transfer.specs.Light.{scale, reachesLight, greatestLight}
+use Rattle.transfer.specs.Level.{reachesLevel, beyondLevels}
+use Rattle.transfer.proofs.Search.{last-beyond}
+use Rattle.transfer.proofs.Light.{reaches-light-falls}
+use Rattle.transfer.proofs.Level.{reaches-level-falls}
+use Rattle.transfer.proofs.Scaling.{pow-mul, pow-some}
 
 -- ---- code to light, at levels up to three times the scale
 light-fails : (S v : ℕ) → zero < S → v ≤ 3 * S → reachesLight S v greatestLight ≡ false

@@ -10,11 +10,11 @@ use borrow.Author.Tests.{leb-true, le-leb, eqb-true, not-true}
 use lib.Dec.{leb, eqb}
 use lib.ListN.{length, getD}
 use Rattle.numbers.specs.Rounding.{nearest}
-use Rattle.linear.specs.Search.{lastPassing}
-use Rattle.linear.specs.Light.{scale, lowLevel, reachesLight, greatestLight, lightOfLevel}
-use Rattle.linear.specs.Tables.{levels, LightTable}
-use Rattle.linear.proofs.Search.{Falls, last-is, last-most}
-use Rattle.linear.proofs.Every.{every, passes-at}
+use Rattle.transfer.specs.Search.{lastPassing}
+use Rattle.transfer.specs.Light.{scale, lowLevel, reachesLight, greatestLight, lightOfLevel}
+use Rattle.transfer.specs.Tables.{levels, LightTable}
+use Rattle.transfer.proofs.Search.{Falls, last-is, last-most}
+use Rattle.transfer.proofs.Every.{every, passes-at}
 
 pub reaches-light-falls : (S v : ℕ) → Falls (reachesLight S v)
 unfolding reachesLight

@@ -1,0 +1,7 @@
+pub mod Search
+pub mod Every
+pub mod Light
+pub mod Scaling
+pub mod Level
+pub mod Bounds
+pub mod Examples

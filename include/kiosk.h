@@ -85,10 +85,10 @@ int64_t kiosk_to_luma_chroma(uint32_t depth, const uint8_t *src, size_t src_len,
 int64_t kiosk_from_luma_chroma(uint32_t depth, const uint8_t *src, size_t src_len,
                                uint8_t *dst, size_t dst_len, size_t *place);
 
-/* Converts e-sRGB to luma and chroma in `sheet`, and `sheet` back to e-sRGB in `back`. Returns the
+/* Converts e-sRGB to luma and chroma in `ycc`, and `ycc` back to e-sRGB in `back`. Returns the
  * first conversion's answer; *again gets the second's, and each has a place of its own. */
 int64_t kiosk_round_trip(uint32_t depth, const uint8_t *codes, size_t codes_len,
-                         uint8_t *sheet, size_t sheet_len, uint8_t *back, size_t back_len,
+                         uint8_t *ycc, size_t ycc_len, uint8_t *back, size_t back_len,
                          size_t *place, int64_t *again, size_t *again_place);
 
 /* ---- Linear light, in signed millionths of reference white. Each gives the pixel count. ---- */

@@ -14,7 +14,7 @@ use Rattle.samples.specs.Samples.{place, pixelSize, sampleCount, samplesOf, two
 use Rattle.samples.specs.Faults.{Verdict, sound, faulty, fault, decides, judged, inOrder}
 use Rattle.esrgb.specs.Depths.{greatest}
 use Rattle.picture.specs.declared.Conversion.{Conversion}
-use Rattle.picture.specs.Forms.{bitsOf, isSheet, wideForm, source, offers}
+use Rattle.picture.specs.Forms.{bitsOf, hasChroma, wideForm, source, offers}
 use Rattle.picture.specs.Convert.{pixelCount, needed, sourceSays, convertSays}
 use Rattle.transfer.specs.Light.{offersLight}
 use Rattle.linear.specs.Operations.{codesToLightSays, lightToCodesSays}
@@ -29,11 +29,11 @@ decided : (v : Verdict) (at : ℕ) (rest : Said) → Countable rest → Countabl
 decided sound at rest h = h
 decided (faulty n) at rest h = tt
 
-module _ (wide sheet : Bool) (greatest : ℕ) (done : Said) (h : Countable done) where
-  samples-say : (k : ℕ) (xs : List ℕ) → Countable (judged wide sheet greatest done k xs)
+module _ (wide chroma : Bool) (greatest : ℕ) (done : Said) (h : Countable done) where
+  samples-say : (k : ℕ) (xs : List ℕ) → Countable (judged wide chroma greatest done k xs)
   unfolding judged
   samples-say k [] = h
-  samples-say k (x ∷ xs) = decided (fault sheet greatest k x) (place wide k) _ (samples-say (k + 1) xs)
+  samples-say k (x ∷ xs) = decided (fault chroma greatest k x) (place wide k) _ (samples-say (k + 1) xs)
 
 ordered : (o w e : Bool) (samples : Said) → Countable samples → Countable (inOrder o w e samples)
 ordered false w e samples h = tt
@@ -50,7 +50,7 @@ unfolding convertSays
 convert-counts c src room h =
     let wide = wideForm (source c) in
     ordered (offers c) (eqb (length src % pixelSize wide) 0) (eqb room (needed c src)) (sourceSays c src)
-    (samples-say wide (isSheet (source c)) (greatest (bitsOf (source c))) (accepted (pixelCount c src)) (pixels wide (length src) h) 0
+    (samples-say wide (hasChroma (source c)) (greatest (bitsOf (source c))) (accepted (pixelCount c src)) (pixels wide (length src) h) 0
     (samplesOf wide src))
 
 pub light-counts : (n : ℕ) (src : List ℕ) (room : ℕ) → length src < 2 ^ 63 → Countable (codesToLightSays n src room)

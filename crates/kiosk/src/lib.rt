@@ -153,16 +153,16 @@ pub extern "C" fn kiosk_light_to_code(depth: u32, src: &[i32], dst: &mut [u8]) -
 pub extern "C" fn kiosk_round_trip(
     depth: u32,
     codes: &[u8],
-    sheet: &mut [u8],
+    ycc: &mut [u8],
     back: &mut [u8],
     place: &mut usize,
     again: &mut i64,
     again_place: &mut usize,
 ) -> i64
-    ensures there { λ r. ⌜ Converts (Conversion.ToLumaChroma depth) (now (codes .entry)) r (now (sheet .entry)) (now (sheet .exit)) (now (place .entry)) (now (place .exit)) ⌝ }
-    ensures again { λ _. ⌜ Converts (Conversion.FromLumaChroma depth) (now (sheet .exit)) (now (again .exit)) (now (back .entry)) (now (back .exit)) (now («again_place» .entry)) (now («again_place» .exit)) ⌝ }
+    ensures there { λ r. ⌜ Converts (Conversion.ToLumaChroma depth) (now (codes .entry)) r (now (ycc .entry)) (now (ycc .exit)) (now (place .entry)) (now (place .exit)) ⌝ }
+    ensures again { λ _. ⌜ Converts (Conversion.FromLumaChroma depth) (now (ycc .exit)) (now (again .exit)) (now (back .entry)) (now (back .exit)) (now («again_place» .entry)) (now («again_place» .exit)) ⌝ }
 {
-    let trip = round_trip(depth, codes, sheet, back);
+    let trip = round_trip(depth, codes, ycc, back);
     let first = trip.there;
     let second = trip.again;
     *again = answered(second, again_place);

@@ -20,7 +20,7 @@ use Rattle.esrgb.specs.Depths.{offered, bits, greatest}
 use Rattle.esrgb.proofs.Scale.{offered-bits}
 use Rattle.picture.specs.declared.Conversion.{Conversion}
 use Rattle.picture.specs.declared.Conversion.the-variants.{FromSrgb, ToSrgb, ChangeDepth, ToLumaChroma, FromLumaChroma}
-use Rattle.picture.specs.Forms.{isSheet, wideForm, source, offers}
+use Rattle.picture.specs.Forms.{hasChroma, wideForm, source, offers}
 use Rattle.picture.specs.Convert.{needed, sourceSays, convertSays, converted, convertBytes}
 use Rattle.picture.specs.Rules.{fromDepth, toDepth, Named, Fit}
 
@@ -81,7 +81,7 @@ needed-fits s t len hs ht h =
 -- ---- the samples of the source
 pub wide-says :
     (c : Conversion) (g : ℕ) (src : List ℕ) → wideForm (source c) ≡ true → g ≡ greatest (fromDepth c)
-    → judged true (isSheet (source c)) g (accepted (length src / 6)) 0 (twoByTwo src) ≡ sourceSays c src
+    → judged true (hasChroma (source c)) g (accepted (length src / 6)) 0 (twoByTwo src) ≡ sourceSays c src
 wide-says (FromSrgb n) g src w e = absurd (false≢true w)
 wide-says (ToSrgb n) g src w e = rw e
 wide-says (ChangeDepth n m) g src w e = rw e

@@ -12,7 +12,7 @@ use Rattle.esrgb.specs.Codes.{fromSrgb, toSrgb, changeDepth}
 use Rattle.lumachroma.specs.LumaChroma.{luma, blueChroma, redChroma, redBack, greenBack, blueBack}
 use Rattle.picture.specs.declared.Conversion.{Conversion}
 use Rattle.picture.specs.declared.Conversion.the-variants.{FromSrgb, ToSrgb, ChangeDepth, ToLumaChroma, FromLumaChroma}
-use Rattle.picture.specs.Forms.{bitsOf, isSheet, wideForm, pixelsIn, source, target, offers}
+use Rattle.picture.specs.Forms.{bitsOf, hasChroma, wideForm, pixelsIn, source, target, offers}
 
 -- What a conversion does to one pixel.
 abbrev pub each : (ℕ → ℕ) → Pixel → Pixel
@@ -41,7 +41,7 @@ needed c src = pixelSize (wideForm (target c)) * pixelCount c src
 -- What the samples of a source say, where its lengths are right. "Accepted, it gives the pixel count."
 abbrev pub sourceSays : Conversion → List ℕ → Said
 sourceSays c src =
-    judged (wideForm (source c)) (isSheet (source c)) (greatest (bitsOf (source c))) (accepted (pixelCount c src)) 0
+    judged (wideForm (source c)) (hasChroma (source c)) (greatest (bitsOf (source c))) (accepted (pixelCount c src)) 0
     (samplesOf (wideForm (source c)) src)
 
 -- The answer to a source and a destination of `room` bytes.

@@ -20,10 +20,10 @@ bitsOf srgb = 8
 bitsOf (esrgb n) = n
 bitsOf (lumaChroma n) = n
 
-abbrev pub isSheet : Form → Bool
-isSheet srgb = false
-isSheet (esrgb n) = false
-isSheet (lumaChroma n) = true
+abbrev pub hasChroma : Form → Bool
+hasChroma srgb = false
+hasChroma (esrgb n) = false
+hasChroma (lumaChroma n) = true
 
 -- "A sample is one byte at 8 bits, else two": of the forms, sRGB alone has 8 bits.
 abbrev pub wideForm : Form → Bool

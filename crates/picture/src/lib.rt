@@ -20,7 +20,7 @@ ghost use Rattle.refusal.specs.Answers.{said};
 ghost use Rattle.samples.specs.Samples.{place, pixelSize, samplesOf, sampleBytes, bytesOf, read, write};
 ghost use Rattle.esrgb.specs.Depths.{bits};
 ghost use Rattle.esrgb.specs.Rules.{applied, ruleOf};
-ghost use Rattle.picture.specs.Forms.{isSheet, wideForm, source, target, offers};
+ghost use Rattle.picture.specs.Forms.{hasChroma, wideForm, source, target, offers};
 ghost use Rattle.picture.specs.Convert.{needed, sourceSays, convertSays, converted, convertBytes};
 ghost use Rattle.picture.specs.Rules.{fromDepth, toDepth, Named, Offering, Fit, pixelIn, pixelApplied};
 
@@ -243,8 +243,8 @@ fn writes_wide(conversion: Conversion) -> bool
 }
 
 // Does the source hold luma and chroma, so that a chroma of 0 is at fault?
-fn reads_sheet(conversion: Conversion) -> bool
-    ensures { λ r. ⌜ r ≡ isSheet (source conversion) ⌝ }
+fn reads_chroma(conversion: Conversion) -> bool
+    ensures { λ r. ⌜ r ≡ hasChroma (source conversion) ⌝ }
 {
     match conversion {
         Conversion::FromSrgb { depth: _ } => false,
@@ -262,7 +262,7 @@ fn judge_source(conversion: Conversion, from: Depth, src: &[u8]) -> Answer
 {
     if reads_wide(conversion) {
         samples::judge(
-            reads_sheet(conversion),
+            reads_chroma(conversion),
             esrgb::greatest_of(from),
             src,
             src.len() / 6,

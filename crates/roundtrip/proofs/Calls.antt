@@ -17,17 +17,17 @@ use Rattle.esrgb.proofs.Scale.{scale-of}
 use Rattle.esrgb.proofs.Eight.{from-srgb-code, to-srgb-byte}
 use Rattle.picture.specs.declared.Conversion.{Conversion}
 use Rattle.picture.specs.declared.Conversion.the-variants.{FromSrgb, ToSrgb, ToLumaChroma, FromLumaChroma}
-use Rattle.picture.specs.Forms.{Form, srgb, esrgb, lumaChroma, bitsOf, isSheet, wideForm, pixelsIn, source, target, offersForm}
+use Rattle.picture.specs.Forms.{Form, srgb, esrgb, lumaChroma, bitsOf, hasChroma, wideForm, pixelsIn, source, target, offersForm}
 use Rattle.picture.specs.Convert.{pixelOf, needed, sourceSays, convertSays, converted, convertBytes}
 use Rattle.roundtrip.specs.Pictures.{first, second, third, pixelAt, Picture}
 use Rattle.roundtrip.specs.Calls.{Call}
-use Rattle.roundtrip.proofs.Pixel.{Codes, channel-of-each, sheet-codes, sheet-chroma, back-codes}
+use Rattle.roundtrip.proofs.Pixel.{Codes, channel-of-each, ycc-codes, ycc-chroma, back-codes}
 
--- A picture with no sample at fault: of a sheet, no chroma is 0 either.
+-- A picture with no sample at fault: of luma and chroma, no chroma is 0 either.
 pub record Sound (form : Form) (bytes : List ℕ) : Type 0 where
   pub picture : Picture form bytes
   pub chroma :
-      isSheet form ≡ true → (j : ℕ) → j < pixelsIn form bytes → (1 ≤ pixelAt form bytes j .1) × (1 ≤ pixelAt form bytes j .2)
+      hasChroma form ≡ true → (j : ℕ) → j < pixelsIn form bytes → (1 ≤ pixelAt form bytes j .1) × (1 ≤ pixelAt form bytes j .2)
 
 -- What a call makes of it.
 pub record Went (c : Conversion) (src after : List ℕ) (answer : Said) : Type 0 where
@@ -47,18 +47,18 @@ fits (lumaChroma n) o p h = two-bytes-fit n o p h
 
 sound-pixel :
     (form : Form) (bytes : List ℕ) → Sound form bytes → (j : ℕ) → j < pixelsIn form bytes
-    → SoundPixel (isSheet form) (greatest (bitsOf form)) (pixelAt form bytes j)
+    → SoundPixel (hasChroma form) (greatest (bitsOf form)) (pixelAt form bytes j)
 sound-pixel form bytes s j h = record {
   first = omega (arith, s .picture .codes j h first);
   second = omega (arith, s .picture .codes j h second);
   third = omega (arith, s .picture .codes j h third);
-  chroma = λ e. s .chroma e j h;
+  nonzero = λ e. s .chroma e j h;
 }
 
 module _ (c : Conversion) (src : List ℕ) where
   no-fault : Sound (source c) src → sourceSays c src ≡ accepted (pixelsIn (source c) src)
   no-fault s =
-      sound-pixels (wideForm (source c)) (isSheet (source c)) (greatest (bitsOf (source c))) _ (0, 0, 0) src (s .picture .whole)
+      sound-pixels (wideForm (source c)) (hasChroma (source c)) (greatest (bitsOf (source c))) _ (0, 0, 0) src (s .picture .whole)
       (sound-pixel (source c) src s)
 
   length-converted : length (converted c src) ≡ needed c src
@@ -111,30 +111,30 @@ module _ {c : Conversion} {src before after : List ℕ} {answer : Said}
   }
 
 -- ---- the four conversions of both runs
-no-sheet : {form : Form} {bytes : List ℕ} → isSheet form ≡ false → Picture form bytes → Sound form bytes
-no-sheet z p = record { picture = p; chroma = λ e. absurd (false≢true (sym z ∙ e)) }
+no-chroma : {form : Form} {bytes : List ℕ} → hasChroma form ≡ false → Picture form bytes → Sound form bytes
+no-chroma z p = record { picture = p; chroma = λ e. absurd (false≢true (sym z ∙ e)) }
 
 module _ {n : ℕ} (o : offered n ≡ true) {src before after : List ℕ} {answer : Said} where
   pub from-srgb : Picture srgb src → Call (FromSrgb n) src before after answer → Went (FromSrgb n) src after answer
   from-srgb p =
-      goes refl o (no-sheet refl p) (λ j h k. rw channel-of-each (from-srgb-code n _ (scale-of n o) (p .codes j h k)))
+      goes refl o (no-chroma refl p) (λ j h k. rw channel-of-each (from-srgb-code n _ (scale-of n o) (p .codes j h k)))
 
   pub to-srgb : Picture (esrgb n) src → Call (ToSrgb n) src before after answer → Went (ToSrgb n) src after answer
-  to-srgb p = goes o refl (no-sheet refl p) (λ j h k. rw channel-of-each (to-srgb-byte n _))
+  to-srgb p = goes o refl (no-chroma refl p) (λ j h k. rw channel-of-each (to-srgb-byte n _))
 
-  pub to-sheet : Picture (esrgb n) src → Call (ToLumaChroma n) src before after answer → Went (ToLumaChroma n) src after answer
-  to-sheet p = goes o o (no-sheet refl p) (λ j h. sheet-codes n (scale-of n o) _ (p .codes j h))
+  pub to-ycc : Picture (esrgb n) src → Call (ToLumaChroma n) src before after answer → Went (ToLumaChroma n) src after answer
+  to-ycc p = goes o o (no-chroma refl p) (λ j h. ycc-codes n (scale-of n o) _ (p .codes j h))
 
-  pub from-sheet : Sound (lumaChroma n) src → Call (FromLumaChroma n) src before after answer → Went (FromLumaChroma n) src after answer
-  from-sheet s = goes o o s (λ j h. back-codes n (scale-of n o) _)
+  pub from-ycc : Sound (lumaChroma n) src → Call (FromLumaChroma n) src before after answer → Went (FromLumaChroma n) src after answer
+  from-ycc s = goes o o s (λ j h. back-codes n (scale-of n o) _)
 
--- "Code 0 is never written for chroma": so the sheet can be read.
-pub sheet-sound :
+-- "Code 0 is never written for chroma": so luma and chroma can be read.
+pub ycc-sound :
     {n : ℕ} {src after : List ℕ} {answer : Said} → offered n ≡ true → Picture (esrgb n) src → Went (ToLumaChroma n) src after answer
     → Sound (lumaChroma n) after
-sheet-sound {n} {src} o p there = record {
+ycc-sound {n} {src} o p there = record {
   picture = there .picture;
   chroma = λ e j h.
       let i : j < pixelsIn (esrgb n) src = rw (there .count) at h in
-      rw (there .pixels j i) (sheet-chroma n (scale-of n o) _ (p .codes j i));
+      rw (there .pixels j i) (ycc-chroma n (scale-of n o) _ (p .codes j i));
 }

@@ -19,7 +19,7 @@ use Rattle.picture.specs.Convert.{lumaChromaOf, rgbOf}
 use Rattle.roundtrip.specs.Pictures.{Channel, channel, pixelAt, Picture}
 use Rattle.roundtrip.specs.Agreement.{RoundTrip, BackToEight, Demand3}
 use Rattle.roundtrip.proofs.Pixel.{by-channels, channel-of-each, kept, near-exact, one-greater}
-use Rattle.roundtrip.proofs.Calls.{Went, from-srgb, to-srgb, to-sheet, from-sheet, sheet-sound}
+use Rattle.roundtrip.proofs.Calls.{Went, from-srgb, to-srgb, to-ycc, from-ycc, ycc-sound}
 
 -- Pictures of one form with as many pixels are equally long, and sRGB pictures with the same channels are the same.
 same-length :
@@ -35,12 +35,12 @@ same-picture :
 same-picture p q count h = same-pixels (0, 0, 0) _ _ (p .whole) (same-length p q count) (λ j i. by-channels _ _ (h j (rw count at i)))
 
 -- ---- the round trip
-module _ {n : ℕ} (s : Scale n) {codes sheet back : List ℕ} {a₁ a₂ : Said} (p : Picture (esrgb n) codes)
-    (there : Went (ToLumaChroma n) codes sheet a₁) (again : Went (FromLumaChroma n) sheet back a₂) where
+module _ {n : ℕ} (s : Scale n) {codes ycc back : List ℕ} {a₁ a₂ : Said} (p : Picture (esrgb n) codes)
+    (there : Went (ToLumaChroma n) codes ycc a₁) (again : Went (FromLumaChroma n) ycc back a₂) where
   back-at : (j : ℕ) → j < pixelsIn (esrgb n) codes → pixelAt (esrgb n) back j ≡ rgbOf n (lumaChromaOf n (pixelAt (esrgb n) codes j))
   back-at j h = again .pixels j (rw (there .count) h) ∙ ap (rgbOf n) (there .pixels j h)
 
-  round-trip : RoundTrip n codes sheet back a₁ a₂
+  round-trip : RoundTrip n codes ycc back a₁ a₂
   round-trip = record {
     there = there .says;
     again = again .says ∙ ap accepted (there .count);
@@ -49,8 +49,8 @@ module _ {n : ℕ} (s : Scale n) {codes sheet back : List ℕ} {a₁ a₂ : Said
   }
 
 -- ---- both runs, from sRGB and back to it
-module _ {n : ℕ} (s : Scale n) {picture codes sheet back codes₈ back₈ : List ℕ} {a₀ a₁ a₂ a₃ a₄ : Said} (p : Picture srgb picture)
-    (made : Went (FromSrgb n) picture codes a₀) (trip : RoundTrip n codes sheet back a₁ a₂)
+module _ {n : ℕ} (s : Scale n) {picture codes ycc back codes₈ back₈ : List ℕ} {a₀ a₁ a₂ a₃ a₄ : Said} (p : Picture srgb picture)
+    (made : Went (FromSrgb n) picture codes a₀) (trip : RoundTrip n codes ycc back a₁ a₂)
     (codes-to : Went (ToSrgb n) codes codes₈ a₃) (back-to : Went (ToSrgb n) back back₈ a₄) where
   back-count : pixelsIn (esrgb n) back ≡ pixelsIn srgb picture
   back-count = rw (trip .size) (made .count)
@@ -90,13 +90,13 @@ module _ {n : ℕ} (s : Scale n) {picture codes sheet back codes₈ back₈ : Li
 
 pub demand3 : Demand3
 demand3 = record {
-  of-codes = λ n o codes b₁ sheet b₂ back a₁ a₂ p c₁ c₂.
-      let there = to-sheet o p c₁ in
-      round-trip (scale-of n o) p there (from-sheet o (sheet-sound o p there) c₂);
-  of-srgb = λ n o picture b₀ codes b₁ sheet b₂ back b₃ codes₈ b₄ back₈ a₀ a₁ a₂ a₃ a₄ p c₀ c₁ c₂ c₃ c₄.
+  of-codes = λ n o codes b₁ ycc b₂ back a₁ a₂ p c₁ c₂.
+      let there = to-ycc o p c₁ in
+      round-trip (scale-of n o) p there (from-ycc o (ycc-sound o p there) c₂);
+  of-srgb = λ n o picture b₀ codes b₁ ycc b₂ back b₃ codes₈ b₄ back₈ a₀ a₁ a₂ a₃ a₄ p c₀ c₁ c₂ c₃ c₄.
       let made = from-srgb o p c₀ in
-      let there = to-sheet o (made .picture) c₁ in
-      let again = from-sheet o (sheet-sound o (made .picture) there) c₂ in
+      let there = to-ycc o (made .picture) c₁ in
+      let again = from-ycc o (ycc-sound o (made .picture) there) c₂ in
       let trip = round-trip (scale-of n o) (made .picture) there again in
       (made .picture, trip, both-back (scale-of n o) p made trip (to-srgb o (made .picture) c₃) (to-srgb o (again .picture) c₄));
 }

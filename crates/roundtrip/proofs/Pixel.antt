@@ -35,13 +35,13 @@ back-codes n s p second = green-code n (p .0) (p .1) (p .2) s
 back-codes n s p third = blue-code n (p .0) (p .1) (p .2) s
 
 module _ (n : ℕ) (s : Scale n) (p : Pixel) (h : Codes n p) where
-  pub sheet-codes : Codes n (lumaChromaOf n p)
-  sheet-codes first = luma-bounds n _ _ _ s (h first) (h second) (h third) .most
-  sheet-codes second = blue-chroma-bounds n _ _ _ s (h first) (h second) (h third) .most
-  sheet-codes third = red-chroma-bounds n _ _ _ s (h first) (h second) (h third) .most
+  pub ycc-codes : Codes n (lumaChromaOf n p)
+  ycc-codes first = luma-bounds n _ _ _ s (h first) (h second) (h third) .most
+  ycc-codes second = blue-chroma-bounds n _ _ _ s (h first) (h second) (h third) .most
+  ycc-codes third = red-chroma-bounds n _ _ _ s (h first) (h second) (h third) .most
 
-  pub sheet-chroma : (1 ≤ lumaChromaOf n p .1) × (1 ≤ lumaChromaOf n p .2)
-  sheet-chroma =
+  pub ycc-chroma : (1 ≤ lumaChromaOf n p .1) × (1 ≤ lumaChromaOf n p .2)
+  ycc-chroma =
       (blue-chroma-bounds n _ _ _ s (h first) (h second) (h third) .least, red-chroma-bounds n _ _ _ s (h first) (h second) (h third) .least)
 
   near : (k : Channel) → Near (channel k p) (channel k (rgbOf n (lumaChromaOf n p)))

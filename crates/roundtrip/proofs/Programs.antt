@@ -15,9 +15,9 @@ use Rattle.roundtrip.specs.Programs.{Trip, BothRuns}
 use Rattle.roundtrip.proofs.Demand.{demand3}
 
 pub trip :
-    {n : ℕ} {codes b₁ sheet b₂ back : List ℕ} {a₁ a₂ : Said}
-    → Called (ToLumaChroma n) codes b₁ sheet a₁ → Called (FromLumaChroma n) sheet b₂ back a₂ → length sheet ≡ length b₁
-    → Trip n codes b₁ sheet b₂ back a₁ a₂
+    {n : ℕ} {codes b₁ ycc b₂ back : List ℕ} {a₁ a₂ : Said}
+    → Called (ToLumaChroma n) codes b₁ ycc a₁ → Called (FromLumaChroma n) ycc b₂ back a₂ → length ycc ≡ length b₁
+    → Trip n codes b₁ ycc b₂ back a₁ a₂
 trip there again kept = record {
   there = there;
   again = again;
@@ -42,11 +42,11 @@ picture-of bytes byte whole = record {
 }
 
 pub both-runs :
-    {n : ℕ} {picture b₀ codes b₁ sheet b₂ back b₃ direct b₄ round : List ℕ} {a₀ a₁ a₂ a₃ a₄ : Said}
-    → ((i : ℕ) → getD picture i 0 < 256) → length codes ≡ length b₀ → length sheet ≡ length b₁ → length back ≡ length b₂
-    → Called (FromSrgb n) picture b₀ codes a₀ → Trip n codes b₁ sheet b₂ back a₁ a₂
+    {n : ℕ} {picture b₀ codes b₁ ycc b₂ back b₃ direct b₄ round : List ℕ} {a₀ a₁ a₂ a₃ a₄ : Said}
+    → ((i : ℕ) → getD picture i 0 < 256) → length codes ≡ length b₀ → length ycc ≡ length b₁ → length back ≡ length b₂
+    → Called (FromSrgb n) picture b₀ codes a₀ → Trip n codes b₁ ycc b₂ back a₁ a₂
     → Called (ToSrgb n) codes b₃ direct a₃ → Called (ToSrgb n) back b₄ round a₄
-    → BothRuns n picture b₀ codes b₁ sheet b₂ back b₃ direct b₄ round a₀ a₁ a₂ a₃ a₄
+    → BothRuns n picture b₀ codes b₁ ycc b₂ back b₃ direct b₄ round a₀ a₁ a₂ a₃ a₄
 both-runs {picture = picture} byte k₀ k₁ k₂ made trip direct-back round-back = record {
   made = made;
   trip = trip;

@@ -24,13 +24,13 @@ pub record Kept (n : ℕ) (e s b : Pixel) : Type 0 where
 
 -- The round trip of a picture of codes, with the answers of its two calls: "none of these calls refuses, and each gives the
 -- picture's pixel count".
-pub record RoundTrip (n : ℕ) (codes sheet back : List ℕ) (there-says back-says : Said) : Type 0 where
+pub record RoundTrip (n : ℕ) (codes ycc back : List ℕ) (there-says back-says : Said) : Type 0 where
   pub there : there-says ≡ accepted (pixelsIn (esrgb n) codes)
   pub again : back-says ≡ accepted (pixelsIn (esrgb n) codes)
   pub size : length back ≡ length codes
   pub kept :
       (j : ℕ) → j < pixelsIn (esrgb n) codes
-      → Kept n (pixelAt (esrgb n) codes j) (pixelAt (lumaChroma n) sheet j) (pixelAt (esrgb n) back j)
+      → Kept n (pixelAt (esrgb n) codes j) (pixelAt (lumaChroma n) ycc j) (pixelAt (esrgb n) back j)
 
 -- At 10 bits: an sRGB channel a, its code e, the code b that the round trip brings back, and b brought to 8 bits, x: it is
 -- a or one greater, never less, and one greater exactly where b is one above e and a is below 255.
@@ -59,18 +59,18 @@ pub record BackToEight (n : ℕ) (picture codes back codes₈ back₈ : List ℕ
 pub record Demand3 : Type 0 where
   pub of-codes :
       (n : ℕ) → offered n ≡ true
-      → (codes b₁ sheet b₂ back : List ℕ) (a₁ a₂ : Said)
+      → (codes b₁ ycc b₂ back : List ℕ) (a₁ a₂ : Said)
       → Picture (esrgb n) codes
-      → Call (ToLumaChroma n) codes b₁ sheet a₁
-      → Call (FromLumaChroma n) sheet b₂ back a₂
-      → RoundTrip n codes sheet back a₁ a₂
+      → Call (ToLumaChroma n) codes b₁ ycc a₁
+      → Call (FromLumaChroma n) ycc b₂ back a₂
+      → RoundTrip n codes ycc back a₁ a₂
   pub of-srgb :
       (n : ℕ) → offered n ≡ true
-      → (picture b₀ codes b₁ sheet b₂ back b₃ codes₈ b₄ back₈ : List ℕ) (a₀ a₁ a₂ a₃ a₄ : Said)
+      → (picture b₀ codes b₁ ycc b₂ back b₃ codes₈ b₄ back₈ : List ℕ) (a₀ a₁ a₂ a₃ a₄ : Said)
       → Picture srgb picture
       → Call (FromSrgb n) picture b₀ codes a₀
-      → Call (ToLumaChroma n) codes b₁ sheet a₁
-      → Call (FromLumaChroma n) sheet b₂ back a₂
+      → Call (ToLumaChroma n) codes b₁ ycc a₁
+      → Call (FromLumaChroma n) ycc b₂ back a₂
       → Call (ToSrgb n) codes b₃ codes₈ a₃
       → Call (ToSrgb n) back b₄ back₈ a₄
-      → Picture (esrgb n) codes × RoundTrip n codes sheet back a₁ a₂ × BackToEight n picture codes back codes₈ back₈ a₀ a₃ a₄
+      → Picture (esrgb n) codes × RoundTrip n codes ycc back a₁ a₂ × BackToEight n picture codes back codes₈ back₈ a₀ a₃ a₄

@@ -21,7 +21,7 @@ abbrev pub pixelAt : Form → List ℕ → ℕ → Pixel
 pixelAt form bytes j = getD (read (wideForm form) bytes) j (0, 0, 0)
 
 -- "A picture is here a buffer of whole pixels, an empty one too; each sample of e-sRGB is a code of its depth, each of sRGB
--- any byte." So is a sheet's each below 2^n.
+-- any byte." Luma and chroma are held to their depth alike.
 pub record Picture (form : Form) (bytes : List ℕ) : Type 0 where
   pub whole : length bytes % pixelSize (wideForm form) ≡ 0
   pub codes : (j : ℕ) → j < pixelsIn form bytes → (k : Channel) → channel k (pixelAt form bytes j) < 2 ^ bitsOf form

@@ -13,11 +13,11 @@ pub struct TripAnswers {
 }
 
 // Document 01's counter run: a picture of codes to luma and chroma, and back in a third buffer.
-pub fn round_trip(depth: u32, codes: &[u8], sheet: &mut [u8], back: &mut [u8]) -> TripAnswers
-    ensures { λ r. ⌜ Trip depth (now (codes .entry)) (now (sheet .entry)) (now (sheet .exit)) (now (back .entry)) (now (back .exit)) (said (r .there)) (said (r .again)) ⌝ }
+pub fn round_trip(depth: u32, codes: &[u8], ycc: &mut [u8], back: &mut [u8]) -> TripAnswers
+    ensures { λ r. ⌜ Trip depth (now (codes .entry)) (now (ycc .entry)) (now (ycc .exit)) (now (back .entry)) (now (back .exit)) (said (r .there)) (said (r .again)) ⌝ }
 {
-    let there = picture::convert(Conversion::ToLumaChroma { depth }, codes, sheet);
-    let again = picture::convert(Conversion::FromLumaChroma { depth }, sheet, back);
+    let there = picture::convert(Conversion::ToLumaChroma { depth }, codes, ycc);
+    let again = picture::convert(Conversion::FromLumaChroma { depth }, ycc, back);
     TripAnswers { there, again }
 }
 
@@ -36,15 +36,15 @@ pub fn both_runs(
     depth: u32,
     picture: &[u8],
     codes: &mut [u8],
-    sheet: &mut [u8],
+    ycc: &mut [u8],
     back: &mut [u8],
     direct: &mut [u8],
     round: &mut [u8],
 ) -> RunAnswers
-    ensures { λ r. ⌜ BothRuns depth (now (picture .entry)) (now (codes .entry)) (now (codes .exit)) (now (sheet .entry)) (now (sheet .exit)) (now (back .entry)) (now (back .exit)) (now (direct .entry)) (now (direct .exit)) (now (round .entry)) (now (round .exit)) (said (r .made)) (said (r .there)) (said (r .again)) (said (r .direct)) (said (r .round)) ⌝ }
+    ensures { λ r. ⌜ BothRuns depth (now (picture .entry)) (now (codes .entry)) (now (codes .exit)) (now (ycc .entry)) (now (ycc .exit)) (now (back .entry)) (now (back .exit)) (now (direct .entry)) (now (direct .exit)) (now (round .entry)) (now (round .exit)) (said (r .made)) (said (r .there)) (said (r .again)) (said (r .direct)) (said (r .round)) ⌝ }
 {
     let made = picture::convert(Conversion::FromSrgb { depth }, picture, codes);
-    let trip = round_trip(depth, codes, sheet, back);
+    let trip = round_trip(depth, codes, ycc, back);
     let there = trip.there;
     let again = trip.again;
     let first = picture::convert(Conversion::ToSrgb { depth }, codes, direct);

@@ -21,10 +21,10 @@ abbrev pub verdict : Finding → Verdict
 verdict Sound = sound
 verdict (Fault r) = faulty (numberOf r)
 
--- "12 sample above 2^n − 1; 13 chroma code 0 on a sheet read": sample x, the one with number k of its buffer. Of a sheet's
+-- "12 sample above 2^n − 1; 13 chroma code 0 on a sheet read": sample x, the one with number k of its buffer. Of luma and chroma's
 -- three samples the first is luma, and the others are chroma.
 unfoldable pub fault : Bool → ℕ → ℕ → ℕ → Verdict
-fault sheet greatest k x = cond (ltb greatest x) (faulty 12) (cond (sheet && (not (eqb (k % 3) 0) && eqb x 0)) (faulty 13) sound)
+fault chroma greatest k x = cond (ltb greatest x) (faulty 12) (cond (chroma && (not (eqb (k % 3) 0) && eqb x 0)) (faulty 13) sound)
 
 -- "Then samples in byte order, the first at fault deciding .. 12 and 13 give the byte offset of the sample": the samples
 -- xs, the first of which has number k, and what is said where none is at fault.
@@ -33,16 +33,16 @@ decides sound at rest = rest
 decides (faulty number) at rest = refusedAt number at
 
 unfoldable pub judged : Bool → Bool → ℕ → Said → ℕ → List ℕ → Said
-judged wide sheet greatest done k [] = done
-judged wide sheet greatest done k (x ∷ xs) =
-    decides (fault sheet greatest k x) (place wide k) (judged wide sheet greatest done (k + 1) xs)
+judged wide chroma greatest done k [] = done
+judged wide chroma greatest done k (x ∷ xs) =
+    decides (fault chroma greatest k x) (place wide k) (judged wide chroma greatest done (k + 1) xs)
 
 -- "9 a depth not offered; 10 source isn't a whole number of pixels; 11 destination isn't exactly the length needed; then
 -- samples", in this order.
 abbrev pub inOrder : Bool → Bool → Bool → Said → Said
 inOrder offered whole exact samples = cond offered (cond whole (cond exact samples (refused 11)) (refused 10)) (refused 9)
 
--- The quick look: are all samples from least to greatest? A sheet's least is 1, so that a chroma of 0 does not pass; a luma
+-- The quick look: are all samples from least to greatest? The least of luma and chroma is 1, so that a chroma of 0 does not pass; a luma
 -- of 0 does not either, and is left to the search.
 abbrev pub leastOf : Bool → ℕ
 leastOf true = 1
@@ -54,10 +54,10 @@ allWithin least greatest (x ∷ xs) = not (ltb x least || ltb greatest x) && all
 
 -- Is one of a pixel's three samples at fault?
 abbrev pub atFault : Bool → ℕ → Pixel → Bool
-atFault sheet greatest p =
-    ltb greatest (p .0) || ltb greatest (p .1) || ltb greatest (p .2) || (sheet && (eqb (p .1) 0 || eqb (p .2) 0))
+atFault chroma greatest p =
+    ltb greatest (p .0) || ltb greatest (p .1) || ltb greatest (p .2) || (chroma && (eqb (p .1) 0 || eqb (p .2) 0))
 
 -- The samples before number k are sound, so that those from k on decide.
-pub record SoundTo (sheet : Bool) (greatest : ℕ) (xs : List ℕ) (k : ℕ) : Type 0 where
+pub record SoundTo (chroma : Bool) (greatest : ℕ) (xs : List ℕ) (k : ℕ) : Type 0 where
   pub inside : k ≤ length xs
-  pub skips : (done : Said) → judged true sheet greatest done 0 xs ≡ judged true sheet greatest done k (drop k xs)
+  pub skips : (done : Said) → judged true chroma greatest done 0 xs ≡ judged true chroma greatest done k (drop k xs)

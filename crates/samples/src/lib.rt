@@ -33,8 +33,8 @@ pub enum Finding {
 }
 
 // Sample x, which has number k of its buffer.
-fn look_at(sheet: bool, greatest: u16, k: usize, x: u16) -> Finding
-    ensures { λ r. ⌜ verdict r ≡ fault sheet greatest k x ⌝ }
+fn look_at(chroma: bool, greatest: u16, k: usize, x: u16) -> Finding
+    ensures { λ r. ⌜ verdict r ≡ fault chroma greatest k x ⌝ }
 {
     if greatest < x {
         return Finding::Fault(Refusal::SampleTooGreat);
@@ -45,7 +45,7 @@ fn look_at(sheet: bool, greatest: u16, k: usize, x: u16) -> Finding
     if k % 3 == 0 {
         return Finding::Sound;
     }
-    if sheet {
+    if chroma {
         Finding::Fault(Refusal::ChromaZero)
     } else {
         Finding::Sound
@@ -61,23 +61,23 @@ fn sample(src: &[u8], k: usize) -> u16
 }
 
 // Is one of a pixel's samples at fault? One answer for the three, with no branch between them.
-fn at_fault(sheet: bool, greatest: u16, a: u16, b: u16, c: u16) -> bool
-    ensures { λ r. ⌜ r ≡ atFault sheet greatest (a, b, c) ⌝ }
+fn at_fault(chroma: bool, greatest: u16, a: u16, b: u16, c: u16) -> bool
+    ensures { λ r. ⌜ r ≡ atFault chroma greatest (a, b, c) ⌝ }
 {
-    (greatest < a) | (greatest < b) | (greatest < c) | (sheet & ((b == 0) | (c == 0)))
+    (greatest < a) | (greatest < b) | (greatest < c) | (chroma & ((b == 0) | (c == 0)))
 }
 
 // The number of the first sample of the first pixel at fault; where there is none, of the sample behind the
 // last whole pixel. A pixel takes one test, which is what makes it quick.
-fn sound_start(sheet: bool, greatest: u16, src: &[u8]) -> usize
-    ensures { λ r. ⌜ SoundTo sheet greatest (twoByTwo (now (src .entry))) r ⌝ }
+fn sound_start(chroma: bool, greatest: u16, src: &[u8]) -> usize
+    ensures { λ r. ⌜ SoundTo chroma greatest (twoByTwo (now (src .entry))) r ⌝ }
 {
     let end = src.len() / 6;
     let mut i = 0;
     while i < end {
         let k = 3 * i;
         let faulty = at_fault(
-            sheet,
+            chroma,
             greatest,
             sample(src, k),
             sample(src, k + 1),
@@ -92,14 +92,14 @@ fn sound_start(sheet: bool, greatest: u16, src: &[u8]) -> usize
 }
 
 // The samples one after another from number `start` on, up to the first at fault.
-fn first_fault(sheet: bool, greatest: u16, src: &[u8], pixels: usize, start: usize) -> Answer
-    requires { ⌜ SoundTo sheet greatest (twoByTwo (now src)) start ⌝ }
-    ensures { λ r. ⌜ said r ≡ judged true sheet greatest (accepted pixels) 0 (twoByTwo (now (src .entry))) ⌝ }
+fn first_fault(chroma: bool, greatest: u16, src: &[u8], pixels: usize, start: usize) -> Answer
+    requires { ⌜ SoundTo chroma greatest (twoByTwo (now src)) start ⌝ }
+    ensures { λ r. ⌜ said r ≡ judged true chroma greatest (accepted pixels) 0 (twoByTwo (now (src .entry))) ⌝ }
 {
     let end = src.len() / 2;
     let mut k = start;
     while k < end {
-        let found = look_at(sheet, greatest, k, sample(src, k));
+        let found = look_at(chroma, greatest, k, sample(src, k));
         match found {
             Finding::Sound => {}
             Finding::Fault(refusal) => {
@@ -112,10 +112,10 @@ fn first_fault(sheet: bool, greatest: u16, src: &[u8], pixels: usize, start: usi
 }
 
 // The least sample that the quick look takes for sound.
-fn least_of(sheet: bool) -> u16
-    ensures { λ r. ⌜ r ≡ leastOf sheet ⌝ }
+fn least_of(chroma: bool) -> u16
+    ensures { λ r. ⌜ r ≡ leastOf chroma ⌝ }
 {
-    if sheet { 1 } else { 0 }
+    if chroma { 1 } else { 0 }
 }
 
 // Are all samples from least to greatest? There is no way out before the end, so that a compiler
@@ -137,17 +137,17 @@ fn all_within(least: u16, greatest: u16, src: &[u8]) -> bool
 // The samples of a buffer of two-byte samples: the first at fault, or the pixel count where there
 // is none. A picture is nearly always sound, and then the quick look decides;
 // of 16 bits, no sample of codes can be at fault, and none is looked at.
-pub fn judge(sheet: bool, greatest: u16, src: &[u8], pixels: usize) -> Answer
-    ensures { λ r. ⌜ said r ≡ judged true sheet greatest (accepted pixels) 0 (twoByTwo (now (src .entry))) ⌝ }
+pub fn judge(chroma: bool, greatest: u16, src: &[u8], pixels: usize) -> Answer
+    ensures { λ r. ⌜ said r ≡ judged true chroma greatest (accepted pixels) 0 (twoByTwo (now (src .entry))) ⌝ }
 {
     if greatest == 65535 {
-        if !sheet {
+        if !chroma {
             return Answer::Done(pixels);
         }
     }
-    if all_within(least_of(sheet), greatest, src) {
+    if all_within(least_of(chroma), greatest, src) {
         return Answer::Done(pixels);
     }
-    let start = sound_start(sheet, greatest, src);
-    first_fault(sheet, greatest, src, pixels, start)
+    let start = sound_start(chroma, greatest, src);
+    first_fault(chroma, greatest, src, pixels, start)
 }

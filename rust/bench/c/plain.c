@@ -39,7 +39,7 @@ static int64_t check_codes(uint32_t depth, const uint8_t *src, size_t samples, s
 }
 
 /* The same of luma and chroma, where a chroma of 0 is at fault too. */
-static int64_t check_sheet(uint32_t depth, const uint8_t *src, size_t samples, size_t *place)
+static int64_t check_ycc(uint32_t depth, const uint8_t *src, size_t samples, size_t *place)
 {
     uint32_t greatest = (1u << depth) - 1;
     for (size_t k = 0; k < samples; k += 3) {
@@ -160,7 +160,7 @@ int64_t plain_from_luma_chroma(uint32_t depth, const uint8_t *src, size_t src_le
         return NOT_WHOLE;
     if (dst_len != src_len)
         return WRONG_ROOM;
-    int64_t fault = check_sheet(depth, src, src_len / 2, place);
+    int64_t fault = check_ycc(depth, src, src_len / 2, place);
     if (fault < 0)
         return fault;
     int64_t middle = 1 << (depth - 1);

@@ -59,8 +59,8 @@ mod c {
             depth: u32,
             codes: *const u8,
             codes_len: usize,
-            sheet: *mut u8,
-            sheet_len: usize,
+            ycc: *mut u8,
+            ycc_len: usize,
             back: *mut u8,
             back_len: usize,
             place: *mut usize,
@@ -173,7 +173,7 @@ pub fn from_luma_chroma(depth: u32, src: &[u8], dst: &mut [u8]) -> Given {
 }
 
 /// What the two conversions of a round trip give.
-pub fn round_trip(depth: u32, codes: &[u8], sheet: &mut [u8], back: &mut [u8]) -> (Given, Given) {
+pub fn round_trip(depth: u32, codes: &[u8], ycc: &mut [u8], back: &mut [u8]) -> (Given, Given) {
     let mut place = UNWRITTEN;
     let mut again = 0;
     let mut again_place = UNWRITTEN;
@@ -183,8 +183,8 @@ pub fn round_trip(depth: u32, codes: &[u8], sheet: &mut [u8], back: &mut [u8]) -
             depth,
             codes.as_ptr(),
             codes.len(),
-            sheet.as_mut_ptr(),
-            sheet.len(),
+            ycc.as_mut_ptr(),
+            ycc.len(),
             back.as_mut_ptr(),
             back.len(),
             &mut place,

@@ -57,9 +57,9 @@ pub struct RoundTrip {
     pub again: Result<usize, Refusal>,
 }
 
-/// Converts e-sRGB codes to luma and chroma in `sheet`, and `sheet` back to codes in `back`.
-pub fn round_trip(depth: u32, codes: &[u8], sheet: &mut [u8], back: &mut [u8]) -> RoundTrip {
-    let (there, again) = calls::round_trip(depth, codes, sheet, back);
+/// Converts e-sRGB codes to luma and chroma in `ycc`, and `ycc` back to codes in `back`.
+pub fn round_trip(depth: u32, codes: &[u8], ycc: &mut [u8], back: &mut [u8]) -> RoundTrip {
+    let (there, again) = calls::round_trip(depth, codes, ycc, back);
     RoundTrip {
         there: counted(there),
         again: counted(again),

@@ -34,7 +34,7 @@ static void put_code(uint8_t *bytes, size_t k, unsigned code)
 static void pictures(void)
 {
     const uint8_t srgb[6] = {0, 128, 255, 255, 0, 0};
-    uint8_t codes[12], wide[12], sheet[12], back[12], eight[6];
+    uint8_t codes[12], wide[12], ycc[12], back[12], eight[6];
     size_t place = 77, again_place = 78;
     int64_t again = 0;
 
@@ -42,20 +42,20 @@ static void pictures(void)
     CHECK(code_at(codes, 0) == 384 && code_at(codes, 1) == 640 && code_at(codes, 2) == 894);
     CHECK(kiosk_change_depth(10, 12, codes, sizeof codes, wide, sizeof wide, &place) == 2);
     CHECK(code_at(wide, 0) == 1536 && code_at(wide, 1) == 2560 && code_at(wide, 2) == 3576);
-    CHECK(kiosk_to_luma_chroma(10, codes, sizeof codes, sheet, sizeof sheet, &place) == 2);
-    CHECK(code_at(sheet, 3) == 536 && code_at(sheet, 4) == 426 && code_at(sheet, 5) == 767);
-    CHECK(kiosk_from_luma_chroma(10, sheet, sizeof sheet, back, sizeof back, &place) == 2);
+    CHECK(kiosk_to_luma_chroma(10, codes, sizeof codes, ycc, sizeof ycc, &place) == 2);
+    CHECK(code_at(ycc, 3) == 536 && code_at(ycc, 4) == 426 && code_at(ycc, 5) == 767);
+    CHECK(kiosk_from_luma_chroma(10, ycc, sizeof ycc, back, sizeof back, &place) == 2);
     CHECK(code_at(back, 3) == 894 && code_at(back, 4) == 383 && code_at(back, 5) == 384);
     CHECK(kiosk_to_srgb(10, codes, sizeof codes, eight, sizeof eight, &place) == 2);
     CHECK(memcmp(eight, srgb, sizeof srgb) == 0);
     CHECK(place == 77);
 
-    memset(sheet, 1, sizeof sheet);
+    memset(ycc, 1, sizeof ycc);
     memset(back, 2, sizeof back);
-    CHECK(kiosk_round_trip(10, codes, sizeof codes, sheet, sizeof sheet, back, sizeof back, &place, &again,
+    CHECK(kiosk_round_trip(10, codes, sizeof codes, ycc, sizeof ycc, back, sizeof back, &place, &again,
                            &again_place) == 2);
     CHECK(again == 2 && place == 77 && again_place == 78);
-    CHECK(code_at(sheet, 3) == 536 && code_at(back, 4) == 383);
+    CHECK(code_at(ycc, 3) == 536 && code_at(back, 4) == 383);
 
     memcpy(back, codes, sizeof codes);
     CHECK(kiosk_from_srgb(11, srgb, sizeof srgb, back, sizeof back, &place) == -KIOSK_DEPTH_NOT_OFFERED);
@@ -65,8 +65,8 @@ static void pictures(void)
     put_code(codes, 4, 1024);
     CHECK(kiosk_to_luma_chroma(10, codes, sizeof codes, back, sizeof back, &place) == -KIOSK_SAMPLE_TOO_GREAT);
     CHECK(place == 8);
-    put_code(sheet, 1, 0);
-    CHECK(kiosk_from_luma_chroma(10, sheet, sizeof sheet, back, sizeof back, &place) == -KIOSK_CHROMA_ZERO);
+    put_code(ycc, 1, 0);
+    CHECK(kiosk_from_luma_chroma(10, ycc, sizeof ycc, back, sizeof back, &place) == -KIOSK_CHROMA_ZERO);
     CHECK(place == 2);
     CHECK(code_at(back, 1) == 640 && code_at(back, 3) == 894);
 }

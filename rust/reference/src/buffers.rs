@@ -51,11 +51,11 @@ impl Form {
 
     /// The first sample at fault, in byte order.
     fn fault(self, samples: &[i64]) -> Option<Refusal> {
-        let sheet = matches!(self, Form::LumaChroma(_));
+        let ycc = matches!(self, Form::LumaChroma(_));
         samples.iter().enumerate().find_map(|(k, &sample)| {
             if sample > samples::greatest(self.bits()) {
                 Some(Refusal::at(12, self.width() * k))
-            } else if sheet && k % 3 != 0 && sample == 0 {
+            } else if ycc && k % 3 != 0 && sample == 0 {
                 Some(Refusal::at(13, self.width() * k))
             } else {
                 None

@@ -30,7 +30,7 @@ answered-requires-2 c κs =
     let start = c .before .before .before .before .before .before .before .before .before .before .before .before .before in
     let trip = c .before .before .before .before .before .before .before .round-trip in
     subst Countable (sym (trip .ensures .there .says))
-    (convert-counts (ToLumaChroma (start .args .depth)) (now (start .args .codes)) (length (now (start .args .sheet))) (omega (arith, start .good)))
+    (convert-counts (ToLumaChroma (start .args .depth)) (now (start .args .codes)) (length (now (start .args .ycc))) (omega (arith, start .good)))
 
 same-length : tie.Need-same-length
 same-length c = search needs
@@ -43,7 +43,7 @@ returns c =
     let start = c .before .before .before .before .before .before .before .before .before .before .before .before .before .before in
     let trip = c .before .before .before .before .before .before .before .before .round-trip .ensures in
     let again = c .before .before .answered in (
-      converts (ToLumaChroma (start .args .depth)) (now (start .args .codes)) (now (start .args .sheet)) (now (start .args .place)) (trip .there .says) (trip .there .bytes)
+      converts (ToLumaChroma (start .args .depth)) (now (start .args .codes)) (now (start .args .ycc)) (now (start .args .place)) (trip .there .says) (trip .there .bytes)
           (toZ-ofZ _ _ (record { sfits = c .answered2 .ok }) ∙ c .answered2 .ensures .0) (c .answered2 .ensures .1),
       converts (FromLumaChroma (start .args .depth)) _ (now (start .args .back)) (now (start .args .again-place)) (trip .again .says) (trip .again .bytes)
           (toZ-ofZ _ _ (record { sfits = again .ok }) ∙ again .ensures .0) (again .ensures .1),

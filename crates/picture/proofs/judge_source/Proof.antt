@@ -17,8 +17,8 @@ use Rattle.picture.proofs.judge_source.Tie as tie
 reads-wide-requires : tie.Need-reads-wide-requires
 reads-wide-requires c κs = search needs
 
-reads-sheet-requires : tie.Need-reads-sheet-requires
-reads-sheet-requires c κs = search needs
+reads-chroma-requires : tie.Need-reads-chroma-requires
+reads-chroma-requires c κs = search needs
 
 greatest-of-requires : tie.Need-greatest-of-requires
 greatest-of-requires c κs = search needs
@@ -33,7 +33,7 @@ returns c =
     let src = now (s .args .src) in
     let greatest-is = c .before .greatest-of .ensures ∙ ap greatest (sym (s .pre)) in
     c .judge .ensures
-    ∙ ap (λ sheet. judged true sheet (c .before .greatest-of .result) (accepted (length src / 6)) 0 (twoByTwo src)) (c .before .before .reads-sheet .ensures)
+    ∙ ap (λ ycc. judged true ycc (c .before .greatest-of .result) (accepted (length src / 6)) 0 (twoByTwo src)) (c .before .before .reads-chroma .ensures)
     ∙ wide-says (s .args .conversion) (c .before .greatest-of .result) src (sym (wide .before .reads-wide .ensures) ∙ wide .if1 .taken) greatest-is
 
 returns-2 : tie.Need-returns-2
@@ -46,7 +46,7 @@ judge-source-spec =
     tie.close
     (tie.spec
     reads-wide-requires
-    reads-sheet-requires
+    reads-chroma-requires
     greatest-of-requires
     judge-requires
     returns

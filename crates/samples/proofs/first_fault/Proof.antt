@@ -15,10 +15,10 @@ use Rattle.samples.proofs.first_fault.Statement.{statement}
 use Rattle.samples.proofs.first_fault.Tie as tie
 
 abbrev Inv-loop : tie.InvT-loop
-Inv-loop sheet greatest src pixels start end k₀ k = (k ≤ end) × (judged true sheet greatest (accepted pixels) 0 (twoByTwo src) ≡ judged true sheet greatest (accepted pixels) k (drop k (twoByTwo src)))
+Inv-loop chroma greatest src pixels start end k₀ k = (k ≤ end) × (judged true chroma greatest (accepted pixels) 0 (twoByTwo src) ≡ judged true chroma greatest (accepted pixels) k (drop k (twoByTwo src)))
 
 abbrev μ-loop : tie.MeasureT-loop
-μ-loop sheet greatest src pixels start end k₀ k = end - k
+μ-loop chroma greatest src pixels start end k₀ k = end - k
 
 -- sample k decides, or hands on to the samples behind it
 judged-here :
@@ -26,16 +26,16 @@ judged-here :
     → let at = c .before .before .before in
     let a = at .before .before .args in
     let xs = twoByTwo (a .src .now) in
-    judged true (a .sheet) (a .greatest) (accepted (a .pixels)) (at .loop .k) (drop (at .loop .k) xs)
-    ≡ decides (verdict found) (2 * at .loop .k) (judged true (a .sheet) (a .greatest) (accepted (a .pixels)) (at .loop .k + 1) (drop (at .loop .k + 1) xs))
+    judged true (a .chroma) (a .greatest) (accepted (a .pixels)) (at .loop .k) (drop (at .loop .k) xs)
+    ≡ decides (verdict found) (2 * at .loop .k) (judged true (a .chroma) (a .greatest) (accepted (a .pixels)) (at .loop .k + 1) (drop (at .loop .k + 1) xs))
 judged-here c found e =
     let at = c .before .before .before in
     let a = at .before .before .args in
     let xs = twoByTwo (a .src .now) in
     let k = at .loop .k in
-    judged-at true (a .sheet) (a .greatest) (accepted (a .pixels)) xs k (omega (arith, length-two (a .src .now)))
-    ∙ ap (λ v. decides v (2 * k) (judged true (a .sheet) (a .greatest) (accepted (a .pixels)) (k + 1) (drop (k + 1) xs)))
-    (ap (fault (a .sheet) (a .greatest) k) (sym (c .before .sample .ensures)) ∙ sym (c .look-at .ensures) ∙ ap verdict e)
+    judged-at true (a .chroma) (a .greatest) (accepted (a .pixels)) xs k (omega (arith, length-two (a .src .now)))
+    ∙ ap (λ v. decides v (2 * k) (judged true (a .chroma) (a .greatest) (accepted (a .pixels)) (k + 1) (drop (k + 1) xs)))
+    (ap (fault (a .chroma) (a .greatest) k) (sym (c .before .sample .ensures)) ∙ sym (c .look-at .ensures) ∙ ap verdict e)
 
 loop-holds : tie.Need-loop-holds Inv-loop μ-loop
 loop-holds c =

@@ -10,11 +10,11 @@ returns c = rw (lt-ltb _ _ (c .if1 .taken))
 
 returns-2 : tie.Need-returns-2
 unfolding fault
-returns-2 c = rw (le-ltb _ _ (c .before .if1 .left), ne-eqb _ 0 (c .if2 .taken), and-false, and-false (c .before .before .args .sheet))
+returns-2 c = rw (le-ltb _ _ (c .before .if1 .left), ne-eqb _ 0 (c .if2 .taken), and-false, and-false (c .before .before .args .chroma))
 
 returns-3 : tie.Need-returns-3
 unfolding fault
-returns-3 c = rw (le-ltb _ _ (c .before .before .if1 .left), c .if3 .taken, and-false (c .before .before .before .args .sheet))
+returns-3 c = rw (le-ltb _ _ (c .before .before .if1 .left), c .if3 .taken, and-false (c .before .before .before .args .chroma))
 
 returns-4 : tie.Need-returns-4
 unfolding fault

@@ -15,13 +15,13 @@ use Rattle.samples.proofs.sound_start.Statement.{statement}
 use Rattle.samples.proofs.sound_start.Tie as tie
 
 abbrev Inv-loop : tie.InvT-loop
-Inv-loop sheet greatest src end i₀ i = (i ≤ end) × SoundTo sheet greatest (twoByTwo src) (3 * i)
+Inv-loop chroma greatest src end i₀ i = (i ≤ end) × SoundTo chroma greatest (twoByTwo src) (3 * i)
 
 abbrev μ-loop : tie.MeasureT-loop
-μ-loop sheet greatest src end i₀ i = end - i
+μ-loop chroma greatest src end i₀ i = end - i
 
 loop-holds : tie.Need-loop-holds Inv-loop μ-loop
-loop-holds c = (omega arith, sound-none (c .before .args .sheet) (c .before .args .greatest) (twoByTwo (c .before .args .src .now)))
+loop-holds c = (omega arith, sound-none (c .before .args .chroma) (c .before .args .greatest) (twoByTwo (c .before .args .src .now)))
 
 mul-k : tie.Need-mul-k Inv-loop μ-loop
 mul-k c = omega arith
@@ -59,9 +59,9 @@ loop-again c =
     let at = asked .before .before .before .before .before in
     let a = at .before .before .args in
     let i = at .loop .i in
-    let sound : atFault (a .sheet) (a .greatest) (asked .before .before .before .sample .result, asked .before .before .sample2 .result, asked .before .sample3 .result) ≡ false = sym (asked .at-fault .ensures) ∙ c .if1 .left in (
+    let sound : atFault (a .chroma) (a .greatest) (asked .before .before .before .sample .result, asked .before .before .sample2 .result, asked .before .sample3 .result) ≡ false = sym (asked .at-fault .ensures) ∙ c .if1 .left in (
       omega arith,
-      sound-more (a .sheet) (a .greatest) (twoByTwo (a .src .now)) i (omega (arith, length-two (a .src .now)))
+      sound-more (a .chroma) (a .greatest) (twoByTwo (a .src .now)) i (omega (arith, length-two (a .src .now)))
           (rw (asked .before .before .before .sample .ensures, asked .before .before .sample2 .ensures, asked .before .sample3 .ensures) at sound) (at .loop .inv .1),
     )
 
@@ -72,7 +72,7 @@ returns-2 : tie.Need-returns-2 Inv-loop μ-loop
 returns-2 c =
     let a = c .before .before .before .args in
     let end : c .before .loop .i ≡ length (a .src .now) / 6 = omega arith in
-    subst (λ i. SoundTo (a .sheet) (a .greatest) (twoByTwo (a .src .now)) (3 * i)) end (c .before .loop .inv .1)
+    subst (λ i. SoundTo (a .chroma) (a .greatest) (twoByTwo (a .src .now)) (3 * i)) end (c .before .loop .inv .1)
 
 pub sound-start-spec : {M : Type 1} → statement M
 sound-start-spec =

@@ -73,13 +73,13 @@ pub fn every_srgb_pixel() -> u64 {
                 .flat_map(|green| (0..=255).flat_map(move |blue| [red, green, blue]))
                 .collect();
             let codes = converted(Conversion::FromSrgb(depth), &picture);
-            let sheet = converted(Conversion::ToLumaChroma(depth), &codes);
-            let back = converted(Conversion::FromLumaChroma(depth), &sheet);
+            let ycc = converted(Conversion::ToLumaChroma(depth), &codes);
+            let back = converted(Conversion::FromLumaChroma(depth), &ycc);
             let direct = converted(Conversion::ToSrgb(depth), &codes);
             let round = converted(Conversion::ToSrgb(depth), &back);
             count += compare(Conversion::FromSrgb(depth), &picture, &codes);
-            compare(Conversion::ToLumaChroma(depth), &codes, &sheet);
-            compare(Conversion::FromLumaChroma(depth), &sheet, &back);
+            compare(Conversion::ToLumaChroma(depth), &codes, &ycc);
+            compare(Conversion::FromLumaChroma(depth), &ycc, &back);
             compare(Conversion::ToSrgb(depth), &back, &round);
             assert_eq!(direct, picture, "straight back at {depth} bits");
             let (codes, back) = (read(&codes, 2), read(&back, 2));
@@ -130,7 +130,7 @@ pub fn pixels_with_edges() -> u64 {
         // Chroma has no code 0.
         let mut check = |samples: &[i64]| {
             let codes = wide(samples.iter().copied());
-            let sheets = wide(samples.iter().enumerate().map(|(k, &sample)| {
+            let yccs = wide(samples.iter().enumerate().map(|(k, &sample)| {
                 if k % 3 == 0 {
                     sample
                 } else {
@@ -139,13 +139,13 @@ pub fn pixels_with_edges() -> u64 {
             }));
             for (conversion, src) in [
                 (Conversion::ToLumaChroma(depth), &codes),
-                (Conversion::FromLumaChroma(depth), &sheets),
+                (Conversion::FromLumaChroma(depth), &yccs),
                 (Conversion::ToSrgb(depth), &codes),
             ] {
                 count += compare(conversion, src, &converted(conversion, src));
             }
-            let sheet = converted(Conversion::ToLumaChroma(depth), &codes);
-            let back = read(&converted(Conversion::FromLumaChroma(depth), &sheet), 2);
+            let ycc = converted(Conversion::ToLumaChroma(depth), &codes);
+            let back = read(&converted(Conversion::FromLumaChroma(depth), &ycc), 2);
             for (before, after) in samples.chunks_exact(3).zip(back.chunks_exact(3)) {
                 assert!(before.iter().zip(after).all(|(a, b)| (a - b).abs() <= 1));
                 let grey = before[0] == before[1] && before[1] == before[2];
@@ -156,7 +156,7 @@ pub fn pixels_with_edges() -> u64 {
             let trip = kiosk::round_trip(depth, &codes, &mut there, &mut again);
             assert_eq!(trip.there, Ok(samples.len() / 3));
             assert_eq!(trip.again, Ok(samples.len() / 3));
-            assert_eq!((there, read(&again, 2)), (sheet, back));
+            assert_eq!((there, read(&again, 2)), (ycc, back));
         };
         check(&corners);
         for _ in 0..32 {

@@ -49,9 +49,9 @@ pub fn report(from: Form, pixels: &[u8]) -> Result<String, Refusal> {
     let mut text = String::new();
     for depth in depths {
         let codes = form::codes(from, depth, pixels)?;
-        let mut sheet = vec![0; codes.len()];
+        let mut ycc = vec![0; codes.len()];
         let mut back = vec![0; codes.len()];
-        let trip = kiosk::round_trip(depth, &codes, &mut sheet, &mut back);
+        let trip = kiosk::round_trip(depth, &codes, &mut ycc, &mut back);
         trip.there?;
         trip.again?;
         let direct = form::convert(Conversion::ToSrgb { depth }, &codes)?;

@@ -2,8 +2,7 @@
 // depth to another. It promises that a rule computes what PIMA 7667 and document 01 define for its
 // depth, for every sample.
 ghost use mathlib.Core.Path.{_≡_};
-ghost use Prim.Native.Nat.{_+_, _-_, _*_, _^_};
-ghost use Rattle.esrgb.specs.Depths.{bits, Names, greatest, middle, offset, step};
+ghost use Rattle.esrgb.specs.Depths.{bits, Names, greatest, step};
 ghost use Rattle.esrgb.specs.Codes.{fromSrgb, toSrgb, changeDepth};
 ghost use Rattle.esrgb.specs.Rules.{applied, ruleOf, Computes};
 

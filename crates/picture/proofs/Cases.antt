@@ -15,7 +15,6 @@ use Rattle.samples.specs.Faults.{judged, inOrder}
 use Rattle.numbers.proofs.Booleans.{and-false}
 use Rattle.samples.proofs.Judging.{none-above}
 use Rattle.esrgb.specs.declared.Depth.{Depth}
-use Rattle.esrgb.specs.declared.Depth.the-variants.{Ten, Twelve, Sixteen}
 use Rattle.esrgb.specs.Depths.{offered, bits, greatest}
 use Rattle.esrgb.proofs.Scale.{offered-bits}
 use Rattle.picture.specs.declared.Conversion.{Conversion}

@@ -13,7 +13,7 @@ ghost use Prim.Native.Nat.{_+_, _≤_};
 ghost use lib.ListN.{length, take, drop};
 ghost use Rattle.esrgb.specs.Depths.{offered};
 ghost use Rattle.numbers.specs.Bytes.{littleEndian};
-ghost use Rattle.records.specs.Layout.{headerIn, recordIn, headerBytes, recordBytes, ReadsHeader, ReadsRecord};
+ghost use Rattle.records.specs.Layout.{recordIn, headerBytes, recordBytes, ReadsHeader, ReadsRecord};
 ghost use Rattle.records.specs.Faults.{isPair, badSide, checked, recordFault, pixelBytes};
 
 // The bytes of a header and of a record.

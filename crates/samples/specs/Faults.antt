@@ -1,16 +1,14 @@
 -- The first sample at fault, and the order of refusals (document 01, "Turned away", Convert).
 -- Assumes nothing.
-use Prim.Native.Nat.{ℕ, _+_, _%_, _≤_}
-use mathlib.Core.Path.{_≡_}
-use mathlib.Core.Bool.{Bool, true, false, cond, not, _&&_, _||_}
+use Prim.Native.Nat.{ℕ, _+_, _%_}
+use mathlib.Core.Bool.{Bool, cond, not, _&&_}
 use mathlib.Core.List.{List, [], _∷_}
 use lib.Dec.{eqb, ltb}
-use lib.ListN.{length, drop}
 use Rattle.refusal.specs.Refusals.{numberOf}
 use Rattle.refusal.specs.Answers.{Said, refused, refusedAt}
 use Rattle.samples.specs.declared.Finding.{Finding}
 use Rattle.samples.specs.declared.Finding.the-variants.{Sound, Fault}
-use Rattle.samples.specs.Samples.{place, Pixel}
+use Rattle.samples.specs.Samples.{place}
 
 -- One sample is sound, or refused by a number.
 pub data Verdict : Type 0 where
@@ -41,23 +39,3 @@ judged wide chroma greatest done k (x ∷ xs) =
 -- samples", in this order.
 abbrev pub inOrder : Bool → Bool → Bool → Said → Said
 inOrder offered whole exact samples = cond offered (cond whole (cond exact samples (refused 11)) (refused 10)) (refused 9)
-
--- The quick look: are all samples from least to greatest? The least of luma and chroma is 1, so that a chroma of 0 does not pass; a luma
--- of 0 does not either, and is left to the search.
-abbrev pub leastOf : Bool → ℕ
-leastOf true = 1
-leastOf false = 0
-
-unfoldable pub allWithin : ℕ → ℕ → List ℕ → Bool
-allWithin least greatest [] = true
-allWithin least greatest (x ∷ xs) = not (ltb x least || ltb greatest x) && allWithin least greatest xs
-
--- Is one of a pixel's three samples at fault?
-abbrev pub atFault : Bool → ℕ → Pixel → Bool
-atFault chroma greatest p =
-    ltb greatest (p .0) || ltb greatest (p .1) || ltb greatest (p .2) || (chroma && (eqb (p .1) 0 || eqb (p .2) 0))
-
--- The samples before number k are sound, so that those from k on decide.
-pub record SoundTo (chroma : Bool) (greatest : ℕ) (xs : List ℕ) (k : ℕ) : Type 0 where
-  pub inside : k ≤ length xs
-  pub skips : (done : Said) → judged true chroma greatest done 0 xs ≡ judged true chroma greatest done k (drop k xs)

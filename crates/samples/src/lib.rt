@@ -6,11 +6,12 @@ use refusal::Answer;
 use refusal::Refusal;
 ghost use mathlib.Core.Path.{_≡_};
 ghost use mathlib.Core.Bool.{true};
-ghost use Prim.Native.Nat.{ℕ, _*_, _+_, _<_};
+ghost use Prim.Native.Nat.{_*_, _+_, _<_};
 ghost use lib.ListN.{length, getD};
-ghost use Rattle.refusal.specs.Answers.{Said, said, accepted};
+ghost use Rattle.refusal.specs.Answers.{said, accepted};
 ghost use Rattle.samples.specs.Samples.{sampleCount, pixelSize, twoByTwo};
-ghost use Rattle.samples.specs.Faults.{fault, judged, verdict, leastOf, allWithin, atFault, SoundTo};
+ghost use Rattle.samples.specs.Faults.{fault, judged, verdict};
+ghost use Rattle.samples.specs.Look.{leastOf, allWithin, atFault, SoundTo};
 
 // The bytes of a pixel.
 pub fn pixel_size(wide: bool) -> usize

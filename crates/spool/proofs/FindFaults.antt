@@ -6,9 +6,8 @@ use mathlib.Core.Path.{_≡_, refl, sym, ap, _∙_}
 use mathlib.Core.Bool.{Bool, true, false, cond, not, _||_}
 use mathlib.Core.List.{List}
 use lib.Dec.{eqb, ltb, lit≤}
-use lib.ListN.{length, take, drop, length-drop}
-use lib.Seq.{take-all}
-use native.Mathlib.Nat.{le-of-eq, add-sub-cancel-left}
+use lib.ListN.{length, take, drop}
+use native.Mathlib.Nat.{add-sub-cancel-left}
 use borrow.Author.Tests.{lt-ltb, le-ltb, ltb-true, ltb-false, eqb-true, eqb-false}
 use Rattle.refusal.specs.declared.Refusal.{Refusal}
 use Rattle.refusal.specs.Refusals.{numberOf}
@@ -21,7 +20,7 @@ use Rattle.spool.specs.declared.Opened.the-variants.{Spool, Refused}
 use Rattle.records.specs.Layout.{headerIn, recordIn}
 use Rattle.records.specs.Faults.{recordFault, pixelBytes}
 use Rattle.spool.specs.Open.{openFault, openSaid, openSays, tableEnd}
-use Rattle.spool.specs.Find.{FindSaid, finds, refused, noRecord, recordAt, pixelsOutside, pixelEnd, frameFault, frameSays, findFault, findSaid, findSays, pixelsStart, pixelsLength, pixelsOf}
+use Rattle.spool.specs.Find.{FindSaid, finds, refused, noRecord, recordAt, pixelsOutside, pixelEnd, frameSays, findFault, findSaid, findSays, pixelsStart, pixelsLength, pixelsOf}
 use Rattle.spool.proofs.Tests.{passed}
 use Rattle.numbers.proofs.Booleans.{or-false}
 use Rattle.spool.proofs.OpenFaults.{sound, opens-sound, refused-fault}

@@ -1,11 +1,15 @@
 -- The biased quotient of the code is the definition's, rounded towards zero at a tie. It is shown over any denominator, once for
 -- both chromas. Assumes nothing.
 use mathlib.Core.Path.{_≡_, ap, sym, _∙_}
-use Prim.Native.Nat.{ℕ, _+_, _-_, _*_, _/_, _%_, _≤_, _<_}
+use Prim.Native.Nat.{ℕ, _+_, _-_, _*_, _/_, _%_, _≤_, _<_, min}
 use native.Mathlib.Omega.{arith}
 use native.Mathlib.Nat.{add-mul, mul-comm, mul-sub, mul-add-div, mod-lt, div-add-mod, div-div-eq-div-mul, div-eq-of-lt, div-eq-of-lt-le, div-lt-iff-lt-mul}
-use Rattle.numbers.specs.Rounding.{nearestDown}
-use Rattle.lumachroma.specs.Quotient.{InRange, Biased}
+use Rattle.numbers.specs.Rounding.{nearest, nearestDown}
+use Rattle.esrgb.specs.declared.Depth.{Depth}
+use Rattle.esrgb.specs.Depths.{bits, greatest, middle}
+use Rattle.esrgb.proofs.Scale.{scale}
+use Rattle.lumachroma.specs.LumaChroma.{clipped}
+use Rattle.lumachroma.specs.Quotient.{InRange, Biased, clippedAt}
 
 module _ {up down den : ℕ} (s : InRange up down den) where
   -- Half of den less one is added: so a tie goes down.
@@ -47,3 +51,11 @@ module _ {up down den : ℕ} (s : InRange up down den) where
         rounded = omega (arith, q, down-by-half (down - up), none (up - down) (omega arith));
         fits = omega arith;
       }
+
+-- Clipping by the middle code is clipping by the depth.
+pub clipped-at : (d : Depth) (up down den : ℕ) → clippedAt (middle (bits d)) up down den ≡ clipped (bits d) up down den
+unfolding clipped clippedAt
+clipped-at d up down den =
+    let s = scale d in
+    let e : 2 * middle (bits d) - 1 ≡ greatest (bits d) = omega arith in
+    ap (λ (g : ℕ). min g (nearest (up - down) den)) e

@@ -1,8 +1,8 @@
--- The signed quotient (up − down) ÷ den of a chroma, as the code computes it: what it asks, and what it gives.
+-- The signed quotient (up − down) ÷ den of a chroma, and the clipped one of a channel, as the code computes them.
 -- Assumes nothing.
-use Prim.Native.Nat.{ℕ, _+_, _-_, _*_, _/_, _%_, _≤_, _<_}
+use Prim.Native.Nat.{ℕ, _+_, _-_, _*_, _/_, _%_, _≤_, _<_, min}
 use mathlib.Core.Path.{_≡_}
-use Rattle.numbers.specs.Rounding.{nearestDown}
+use Rattle.numbers.specs.Rounding.{nearest, nearestDown}
 
 -- The quotient is within 32767.5 of 0, as it is for 16-bit samples whose weights on either side add up to half of den.
 pub record InRange (up down den : ℕ) : Type 0 where
@@ -17,3 +17,12 @@ pub record InRange (up down den : ℕ) : Type 0 where
 pub record Biased (up down den q : ℕ) : Type 0 where
   pub rounded : q + nearestDown (down - up) den ≡ 32768 + nearestDown (up - down) den
   pub fits : q < 65536
+
+-- A number that can be the middle code of a depth.
+pub record Middle (middle : ℕ) : Type 0 where
+  pub some : 1 ≤ middle
+  pub most : middle ≤ 32768
+
+-- `clipped` at the depth with this middle code: the greatest code is one below twice the middle.
+unfoldable pub clippedAt : ℕ → ℕ → ℕ → ℕ → ℕ
+clippedAt middle up down den = min (2 * middle - 1) (nearest (up - down) den)

@@ -2,13 +2,12 @@
 // It promises that every pixel of 16-bit samples gets the three numbers that the definitions of
 // specs/ give at its depth, so that it asks nothing of a caller.
 use esrgb::Depth;
-use esrgb::greatest_of;
 use esrgb::step_of;
 ghost use mathlib.Core.Path.{_≡_};
 ghost use Prim.Native.Nat.{_+_, _-_, _*_, _≤_, min};
-ghost use Rattle.esrgb.specs.Depths.{bits, greatest, middle};
-ghost use Rattle.lumachroma.specs.LumaChroma.{chroma, toLumaChroma, clipped, greenBack, toRgb};
-ghost use Rattle.lumachroma.specs.Quotient.{InRange, Biased};
+ghost use Rattle.esrgb.specs.Depths.{bits, middle};
+ghost use Rattle.lumachroma.specs.LumaChroma.{chroma, toLumaChroma, toRgb};
+ghost use Rattle.lumachroma.specs.Quotient.{InRange, Biased, Middle, clippedAt};
 
 // A pixel of e-sRGB codes.
 pub struct Rgb {
@@ -33,7 +32,7 @@ fn weighted_sum(red: u16, green: u16, blue: u16) -> u32
 
 // The middle code, in the width of the sums here.
 fn middle_of(depth: Depth) -> u32
-    ensures { λ r. ⌜ (r ≡ middle (bits depth)) × (r ≤ 32768) ⌝ }
+    ensures { λ r. ⌜ (r ≡ middle (bits depth)) × Middle r ⌝ }
 {
     256 * (step_of(depth) as u32)
 }
@@ -75,41 +74,42 @@ pub fn to_luma_chroma(depth: Depth, p: Rgb) -> LumaChroma
     }
 }
 
-// A sum that stands `bias` too high, clipped to the codes of a depth.
-fn clip(depth: Depth, sum: u32, bias: u32) -> u16
-    ensures { λ r. ⌜ r ≡ min (greatest (bits depth)) (sum - bias) ⌝ }
+// A sum that stands `bias` too high, clipped to the codes with this middle code. The middle stands for
+// the depth, so that a loop works it out once.
+fn clip(middle: u32, sum: u32, bias: u32) -> u16
+    requires { ⌜ Middle middle ⌝ }
+    ensures { λ r. ⌜ r ≡ min (2 * middle - 1) (sum - bias) ⌝ }
 {
-    let greatest = greatest_of(depth);
+    let greatest = 2 * middle - 1;
     if sum < bias {
         0
-    } else if sum - bias < (greatest as u32) {
+    } else if sum - bias < greatest {
         (sum - bias) as u16
     } else {
-        greatest
+        greatest as u16
     }
 }
 
 // Red or blue: luma plus `weight` thousandths of the chroma's distance from the middle. The sum
 // stands twice the middle too high, so that it is never below 0.
-fn add_chroma(depth: Depth, luma: u16, chroma: u16, weight: u32) -> u16
-    requires { ⌜ weight ≤ 2000 ⌝ }
-    ensures { λ r. ⌜ r ≡ clipped (bits depth) (1000 * luma + weight * chroma) (weight * middle (bits depth)) 1000 ⌝ }
+fn add_chroma(middle: u32, luma: u16, chroma: u16, weight: u32) -> u16
+    requires { ⌜ Middle middle × (weight ≤ 2000) ⌝ }
+    ensures { λ r. ⌜ r ≡ clippedAt middle (1000 * luma + weight * chroma) (weight * middle) 1000 ⌝ }
 {
-    let middle = middle_of(depth);
     let part = (weight * (chroma as u32) + middle * (2000 - weight) + 500) / 1000;
-    clip(depth, (luma as u32) + part, 2 * middle)
+    clip(middle, (luma as u32) + part, 2 * middle)
 }
 
 // Green: luma less both chromas' shares. Numerator and denominator are half of the definition's,
 // which keeps the quotient, and the sum stands 131072 too high, so that it is never below 0.
-fn green_of(depth: Depth, luma: u16, cb: u16, cr: u16) -> u16
-    ensures { λ r. ⌜ r ≡ greenBack (bits depth) luma cb cr ⌝ }
+fn green_of(middle: u32, luma: u16, cb: u16, cr: u16) -> u16
+    requires { ⌜ Middle middle ⌝ }
+    ensures { λ r. ⌜ r ≡ clippedAt middle (587000 * luma + (202008 + 419198) * middle) (202008 * cb + 419198 * cr) 587000 ⌝ }
 {
-    let middle = middle_of(depth) as u64;
-    let up = 293500 * 131072 + 310603 * middle + 146750;
+    let up = 293500 * 131072 + 310603 * (middle as u64) + 146750;
     let down = 101004 * (cb as u64) + 209599 * (cr as u64);
     clip(
-        depth,
+        middle,
         (luma as u32) + (((up - down) / 293500) as u32),
         131072,
     )
@@ -119,9 +119,10 @@ fn green_of(depth: Depth, luma: u16, cb: u16, cr: u16) -> u16
 pub fn to_rgb(depth: Depth, p: LumaChroma) -> Rgb
     ensures { λ r. ⌜ r ≡ toRgb (bits depth) p ⌝ }
 {
+    let middle = middle_of(depth);
     Rgb {
-        red: add_chroma(depth, p.luma, p.cr, 1402),
-        green: green_of(depth, p.luma, p.cb, p.cr),
-        blue: add_chroma(depth, p.luma, p.cb, 1772),
+        red: add_chroma(middle, p.luma, p.cr, 1402),
+        green: green_of(middle, p.luma, p.cb, p.cr),
+        blue: add_chroma(middle, p.luma, p.cb, 1772),
     }
 }

@@ -1,12 +1,12 @@
 -- `lumachroma::add_chroma` meets its contract. The weight is a variable, so its products with the chroma and the middle are bounded
 -- first; then the sum less its bias is the definition's quotient, or both are clipped to 0.
 -- Assumes nothing.
-use mathlib.Core.Path.{_≡_, ap}
+use mathlib.Core.Path.{_≡_}
 use Prim.Native.Nat.{ℕ, _+_, _-_, _*_, _≤_}
 use native.Mathlib.Nat.{mul-comm, mul-sub, mul-le-mul, mul-le-mul-right}
 use native.Mathlib.Omega.{arith}
 use Rattle.numbers.specs.Rounding.{nearest}
-use Rattle.lumachroma.specs.LumaChroma.{clipped}
+use Rattle.lumachroma.specs.Quotient.{Middle, clippedAt}
 use borrow.Author.Needs.{needs}
 use Rattle.lumachroma.proofs.add_chroma.Statement.{statement}
 use Rattle.lumachroma.proofs.add_chroma.Tie as tie
@@ -14,18 +14,17 @@ use Rattle.lumachroma.proofs.add_chroma.Tie as tie
 record Products (weight code middle : ℕ) : Type 0 where
   fits : weight * code ≤ 2000 * 65535
   rest : middle * (2000 - weight) + weight * middle ≡ 2000 * middle
+  most : middle ≤ 32768
 
-products : (weight code middle : ℕ) → weight ≤ 2000 → code ≤ 65535 → Products weight code middle
-products weight code middle h k = record {
+products : (weight code middle : ℕ) → weight ≤ 2000 → code ≤ 65535 → Middle middle → Products weight code middle
+products weight code middle h k m = record {
   fits = mul-le-mul h k;
   rest = omega (arith, mul-sub middle 2000 weight, mul-comm weight middle, mul-le-mul-right middle h);
+  most = m .most;
 }
 
-products-here : (c : tie.After-middle-of) → Products (c .before .args .weight) (c .before .args .chroma) (c .middle-of .result)
-products-here c = products _ _ _ (omega arith) (omega arith)
-
-middle-of-requires : tie.Need-middle-of-requires
-middle-of-requires c κs = search needs
+products-here : (c : tie.Start) → Products (c .args .weight) (c .args .chroma) (c .args .middle)
+products-here c = products _ _ _ (c .pre .1) (omega arith) (c .pre .0)
 
 mul-part : tie.Need-mul-part
 mul-part c = omega (arith, products-here c)
@@ -52,16 +51,13 @@ clip-requires : tie.Need-clip-requires
 clip-requires c κs = search needs
 
 returns : tie.Need-returns
-unfolding clipped nearest
-returns c =
-    let same = ap (λ m. c .before .before .args .weight * m) (c .before .middle-of .ensures .0) in
-    omega (arith, same, products-here (c .before))
+unfolding clippedAt nearest
+returns c = omega (arith, products-here (c .before))
 
 pub add-chroma-spec : {M : Type 1} → statement M
 add-chroma-spec =
     tie.close
     (tie.spec
-    middle-of-requires
     mul-part
     sub-part
     mul-part-2

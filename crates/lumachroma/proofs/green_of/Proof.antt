@@ -2,16 +2,10 @@
 -- Assumes nothing.
 use native.Mathlib.Omega.{arith}
 use Rattle.numbers.specs.Rounding.{nearest}
-use Rattle.lumachroma.specs.LumaChroma.{clipped, greenBack}
+use Rattle.lumachroma.specs.Quotient.{clippedAt}
 use borrow.Author.Needs.{needs}
 use Rattle.lumachroma.proofs.green_of.Statement.{statement}
 use Rattle.lumachroma.proofs.green_of.Tie as tie
-
-middle-of-requires : tie.Need-middle-of-requires
-middle-of-requires c κs = search needs
-
-cast-middle : tie.Need-cast-middle
-cast-middle c = search needs
 
 mul-up : tie.Need-mul-up
 mul-up c = search needs
@@ -47,15 +41,13 @@ clip-requires : tie.Need-clip-requires
 clip-requires c κs = search needs
 
 returns : tie.Need-returns
-unfolding greenBack clipped nearest
+unfolding clippedAt nearest
 returns c = omega arith
 
 pub green-of-spec : {M : Type 1} → statement M
 green-of-spec =
     tie.close
     (tie.spec
-    middle-of-requires
-    cast-middle
     mul-up
     mul-up-2
     add-up

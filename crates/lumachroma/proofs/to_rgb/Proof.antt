@@ -1,9 +1,16 @@
--- `lumachroma::to_rgb` meets its contract: each channel is its definition.
+-- `lumachroma::to_rgb` meets its contract: each channel is its definition, at the middle code of the depth.
 -- Assumes nothing.
-use Rattle.lumachroma.specs.LumaChroma.{redBack, blueBack}
+use mathlib.Core.Path.{ap, _∙_}
+use Prim.Native.Nat.{ℕ, _+_, _*_}
+use Rattle.lumachroma.specs.LumaChroma.{redBack, greenBack, blueBack}
+use Rattle.lumachroma.specs.Quotient.{clippedAt}
+use Rattle.lumachroma.proofs.Quotient.{clipped-at}
 use borrow.Author.Needs.{needs}
 use Rattle.lumachroma.proofs.to_rgb.Statement.{statement}
 use Rattle.lumachroma.proofs.to_rgb.Tie as tie
+
+middle-of-requires : tie.Need-middle-of-requires
+middle-of-requires c κs = search needs
 
 add-chroma-requires : tie.Need-add-chroma-requires
 add-chroma-requires c κs = search needs
@@ -15,13 +22,26 @@ add-chroma-requires-2 : tie.Need-add-chroma-requires-2
 add-chroma-requires-2 c κs = search needs
 
 returns : tie.Need-returns
-unfolding redBack blueBack
-returns c = λ i. record {
-  red = c .before .before .add-chroma .ensures i;
-  green = c .before .green-of .ensures i;
-  blue = c .add-chroma2 .ensures i;
-}
+unfolding redBack greenBack blueBack
+returns c =
+    let start = c .before .before .before .before .args in
+    let p = start .p in
+    let e = c .before .before .before .middle-of .ensures .0 in
+    let red = ap (λ (m : ℕ). clippedAt m (1000 * p .luma + 1402 * p .cr) (1402 * m) 1000) e ∙ clipped-at (start .depth) _ _ _ in
+    let green = ap (λ (m : ℕ). clippedAt m (587000 * p .luma + (202008 + 419198) * m) (202008 * p .cb + 419198 * p .cr) 587000) e ∙ clipped-at (start .depth) _ _ _ in
+    let blue = ap (λ (m : ℕ). clippedAt m (1000 * p .luma + 1772 * p .cb) (1772 * m) 1000) e ∙ clipped-at (start .depth) _ _ _ in
+    λ i. record {
+      red = (c .before .before .add-chroma .ensures ∙ red) i;
+      green = (c .before .green-of .ensures ∙ green) i;
+      blue = (c .add-chroma2 .ensures ∙ blue) i;
+    }
 
 pub to-rgb-spec : {M : Type 1} → statement M
 to-rgb-spec =
-    tie.close (tie.spec add-chroma-requires green-of-requires add-chroma-requires-2 returns)
+    tie.close
+    (tie.spec
+    middle-of-requires
+    add-chroma-requires
+    green-of-requires
+    add-chroma-requires-2
+    returns)

@@ -74,8 +74,8 @@ pub fn to_luma_chroma(depth: Depth, p: Rgb) -> LumaChroma
     }
 }
 
-// A sum that stands `bias` too high, clipped to the codes with this middle code. The middle stands for
-// the depth, so that a loop works it out once.
+// A sum that stands `bias` too high, clipped to the codes with this middle code. On the way back the
+// middle stands for the depth, so that a loop works it out once and clips without a jump.
 fn clip(middle: u32, sum: u32, bias: u32) -> u16
     requires { ⌜ Middle middle ⌝ }
     ensures { λ r. ⌜ r ≡ min (2 * middle - 1) (sum - bias) ⌝ }

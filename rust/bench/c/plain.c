@@ -12,6 +12,11 @@ static int offered(uint32_t depth)
     return depth == 10 || depth == 12 || depth == 16;
 }
 
+static int offers_light(uint32_t depth)
+{
+    return depth == 10 || depth == 12;
+}
+
 static uint32_t sample(const uint8_t *bytes, size_t k)
 {
     return (uint32_t)bytes[2 * k] | (uint32_t)bytes[2 * k + 1] << 8;
@@ -21,6 +26,17 @@ static void put(uint8_t *bytes, size_t k, uint32_t value)
 {
     bytes[2 * k] = (uint8_t)value;
     bytes[2 * k + 1] = (uint8_t)(value >> 8);
+}
+
+/* The refusals that no sample decides, in their order; 0 if there is none. */
+static int64_t check_lengths(int is_offered, size_t src_len, size_t pixel, size_t dst_len,
+                             size_t needed)
+{
+    if (!is_offered)
+        return NOT_OFFERED;
+    if (src_len % pixel != 0)
+        return NOT_WHOLE;
+    return dst_len != needed ? WRONG_ROOM : 0;
 }
 
 /* The first sample above the greatest of its depth. At 16 bits there is none. */
@@ -58,12 +74,9 @@ int64_t plain_from_srgb(uint32_t depth, const uint8_t *src, size_t src_len, uint
                         size_t dst_len, size_t *place)
 {
     (void)place;
-    if (!offered(depth))
-        return NOT_OFFERED;
-    if (src_len % 3 != 0)
-        return NOT_WHOLE;
-    if (dst_len != 2 * src_len)
-        return WRONG_ROOM;
+    int64_t fault = check_lengths(offered(depth), src_len, 3, dst_len, 2 * src_len);
+    if (fault < 0)
+        return fault;
     uint32_t step = 1u << (depth - 9), offset = (1u << (depth - 2)) + (1u << (depth - 3));
     for (size_t k = 0; k < src_len; k++)
         put(dst, k, step * src[k] + offset);
@@ -73,13 +86,9 @@ int64_t plain_from_srgb(uint32_t depth, const uint8_t *src, size_t src_len, uint
 int64_t plain_to_srgb(uint32_t depth, const uint8_t *src, size_t src_len, uint8_t *dst,
                       size_t dst_len, size_t *place)
 {
-    if (!offered(depth))
-        return NOT_OFFERED;
-    if (src_len % 6 != 0)
-        return NOT_WHOLE;
-    if (dst_len != src_len / 2)
-        return WRONG_ROOM;
-    int64_t fault = check_codes(depth, src, dst_len, place);
+    int64_t fault = check_lengths(offered(depth), src_len, 6, dst_len, src_len / 2);
+    if (fault == 0)
+        fault = check_codes(depth, src, dst_len, place);
     if (fault < 0)
         return fault;
     int32_t shift = (int32_t)depth - 9, half = 1 << (shift - 1);
@@ -95,13 +104,9 @@ int64_t plain_to_srgb(uint32_t depth, const uint8_t *src, size_t src_len, uint8_
 int64_t plain_change_depth(uint32_t from, uint32_t to, const uint8_t *src, size_t src_len,
                            uint8_t *dst, size_t dst_len, size_t *place)
 {
-    if (!offered(from) || !offered(to))
-        return NOT_OFFERED;
-    if (src_len % 6 != 0)
-        return NOT_WHOLE;
-    if (dst_len != src_len)
-        return WRONG_ROOM;
-    int64_t fault = check_codes(from, src, src_len / 2, place);
+    int64_t fault = check_lengths(offered(from) && offered(to), src_len, 6, dst_len, src_len);
+    if (fault == 0)
+        fault = check_codes(from, src, src_len / 2, place);
     if (fault < 0)
         return fault;
     if (to >= from) {
@@ -124,13 +129,9 @@ static int32_t nearest_low(int32_t num, int32_t den)
 int64_t plain_to_luma_chroma(uint32_t depth, const uint8_t *src, size_t src_len, uint8_t *dst,
                              size_t dst_len, size_t *place)
 {
-    if (!offered(depth))
-        return NOT_OFFERED;
-    if (src_len % 6 != 0)
-        return NOT_WHOLE;
-    if (dst_len != src_len)
-        return WRONG_ROOM;
-    int64_t fault = check_codes(depth, src, src_len / 2, place);
+    int64_t fault = check_lengths(offered(depth), src_len, 6, dst_len, src_len);
+    if (fault == 0)
+        fault = check_codes(depth, src, src_len / 2, place);
     if (fault < 0)
         return fault;
     int32_t middle = 1 << (depth - 1);
@@ -154,13 +155,9 @@ static uint32_t code_of(int64_t num, int64_t den, uint32_t greatest)
 int64_t plain_from_luma_chroma(uint32_t depth, const uint8_t *src, size_t src_len, uint8_t *dst,
                                size_t dst_len, size_t *place)
 {
-    if (!offered(depth))
-        return NOT_OFFERED;
-    if (src_len % 6 != 0)
-        return NOT_WHOLE;
-    if (dst_len != src_len)
-        return WRONG_ROOM;
-    int64_t fault = check_ycc(depth, src, src_len / 2, place);
+    int64_t fault = check_lengths(offered(depth), src_len, 6, dst_len, src_len);
+    if (fault == 0)
+        fault = check_ycc(depth, src, src_len / 2, place);
     if (fault < 0)
         return fault;
     int64_t middle = 1 << (depth - 1);
@@ -192,13 +189,9 @@ void plain_set_tables(const uint32_t *light, const uint32_t *ten, const uint32_t
 int64_t plain_code_to_light(uint32_t depth, const uint8_t *src, size_t src_len, int32_t *dst,
                             size_t dst_len, size_t *place)
 {
-    if (depth != 10 && depth != 12)
-        return NOT_OFFERED;
-    if (src_len % 6 != 0)
-        return NOT_WHOLE;
-    if (dst_len != src_len / 2)
-        return WRONG_ROOM;
-    int64_t fault = check_codes(depth, src, dst_len, place);
+    int64_t fault = check_lengths(offers_light(depth), src_len, 6, dst_len, src_len / 2);
+    if (fault == 0)
+        fault = check_codes(depth, src, dst_len, place);
     if (fault < 0)
         return fault;
     for (size_t k = 0; k < dst_len; k++) {
@@ -211,12 +204,9 @@ int64_t plain_code_to_light(uint32_t depth, const uint8_t *src, size_t src_len, 
 int64_t plain_light_to_code(uint32_t depth, const int32_t *src, size_t src_len, uint8_t *dst,
                             size_t dst_len)
 {
-    if (depth != 10 && depth != 12)
-        return NOT_OFFERED;
-    if (src_len % 3 != 0)
-        return NOT_WHOLE;
-    if (dst_len != 2 * src_len)
-        return WRONG_ROOM;
+    int64_t fault = check_lengths(offers_light(depth), src_len, 3, dst_len, 2 * src_len);
+    if (fault < 0)
+        return fault;
     const uint32_t *thresholds = depth == 10 ? thresholds10 : thresholds12;
     uint32_t levels = depth == 10 ? 640 : 2560, offset = depth == 10 ? 384 : 1536;
     for (size_t k = 0; k < src_len; k++) {

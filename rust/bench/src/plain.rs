@@ -5,42 +5,28 @@
 use kiosk::Conversion;
 
 mod c {
+    /// Declares conversions that name one depth.
+    macro_rules! conversions {
+        ($($name:ident)*) => {
+            extern "C" {
+                $(pub fn $name(
+                    depth: u32,
+                    src: *const u8,
+                    src_len: usize,
+                    dst: *mut u8,
+                    dst_len: usize,
+                    place: *mut usize,
+                ) -> i64;)*
+            }
+        };
+    }
+
+    conversions! { plain_from_srgb plain_to_srgb plain_to_luma_chroma plain_from_luma_chroma }
+
     extern "C" {
-        pub fn plain_from_srgb(
-            depth: u32,
-            src: *const u8,
-            src_len: usize,
-            dst: *mut u8,
-            dst_len: usize,
-            place: *mut usize,
-        ) -> i64;
-        pub fn plain_to_srgb(
-            depth: u32,
-            src: *const u8,
-            src_len: usize,
-            dst: *mut u8,
-            dst_len: usize,
-            place: *mut usize,
-        ) -> i64;
         pub fn plain_change_depth(
             from: u32,
             to: u32,
-            src: *const u8,
-            src_len: usize,
-            dst: *mut u8,
-            dst_len: usize,
-            place: *mut usize,
-        ) -> i64;
-        pub fn plain_to_luma_chroma(
-            depth: u32,
-            src: *const u8,
-            src_len: usize,
-            dst: *mut u8,
-            dst_len: usize,
-            place: *mut usize,
-        ) -> i64;
-        pub fn plain_from_luma_chroma(
-            depth: u32,
             src: *const u8,
             src_len: usize,
             dst: *mut u8,
@@ -97,17 +83,9 @@ pub fn set_tables(light: &[u32; 2560], ten: &[u32; 640], twelve: &[u32; 2560]) {
 /// Codes to light in plain C.
 pub fn code_to_light(depth: u32, src: &[u8], dst: &mut [i32]) -> i64 {
     let mut place = 0;
+    let (s, n, d, m) = (src.as_ptr(), src.len(), dst.as_mut_ptr(), dst.len());
     // SAFETY: as of `convert`.
-    unsafe {
-        c::plain_code_to_light(
-            depth,
-            src.as_ptr(),
-            src.len(),
-            dst.as_mut_ptr(),
-            dst.len(),
-            &mut place,
-        )
-    }
+    unsafe { c::plain_code_to_light(depth, s, n, d, m, &mut place) }
 }
 
 /// Light to codes in plain C.

@@ -12,43 +12,29 @@ mod c {
     pub type Convert =
         unsafe extern "C" fn(u32, *const u8, usize, *mut u8, usize, *mut usize) -> i64;
 
+    /// Declares conversions that name one depth, each as in include/kiosk.h.
+    macro_rules! conversions {
+        ($($name:ident)*) => {
+            extern "C" {
+                $(pub fn $name(
+                    depth: u32,
+                    src: *const u8,
+                    src_len: usize,
+                    dst: *mut u8,
+                    dst_len: usize,
+                    place: *mut usize,
+                ) -> i64;)*
+            }
+        };
+    }
+
+    conversions! { kiosk_from_srgb kiosk_to_srgb kiosk_to_luma_chroma kiosk_from_luma_chroma }
+
     // As in include/kiosk.h.
     extern "C" {
-        pub fn kiosk_from_srgb(
-            depth: u32,
-            src: *const u8,
-            src_len: usize,
-            dst: *mut u8,
-            dst_len: usize,
-            place: *mut usize,
-        ) -> i64;
-        pub fn kiosk_to_srgb(
-            depth: u32,
-            src: *const u8,
-            src_len: usize,
-            dst: *mut u8,
-            dst_len: usize,
-            place: *mut usize,
-        ) -> i64;
         pub fn kiosk_change_depth(
             from: u32,
             to: u32,
-            src: *const u8,
-            src_len: usize,
-            dst: *mut u8,
-            dst_len: usize,
-            place: *mut usize,
-        ) -> i64;
-        pub fn kiosk_to_luma_chroma(
-            depth: u32,
-            src: *const u8,
-            src_len: usize,
-            dst: *mut u8,
-            dst_len: usize,
-            place: *mut usize,
-        ) -> i64;
-        pub fn kiosk_from_luma_chroma(
-            depth: u32,
             src: *const u8,
             src_len: usize,
             dst: *mut u8,
@@ -123,20 +109,17 @@ fn given(answer: i64, place: usize) -> Given {
     }
 }
 
-fn convert(call: c::Convert, depth: u32, src: &[u8], dst: &mut [u8]) -> Given {
+/// What a call gives that may write a place.
+fn placed(call: impl FnOnce(&mut usize) -> i64) -> Given {
     let mut place = UNWRITTEN;
-    // SAFETY: the pointers and lengths are those of two slices that do not overlap, and of a local.
-    let answer = unsafe {
-        call(
-            depth,
-            src.as_ptr(),
-            src.len(),
-            dst.as_mut_ptr(),
-            dst.len(),
-            &mut place,
-        )
-    };
+    let answer = call(&mut place);
     given(answer, place)
+}
+
+fn convert(call: c::Convert, depth: u32, src: &[u8], dst: &mut [u8]) -> Given {
+    let (s, n, d, m) = (src.as_ptr(), src.len(), dst.as_mut_ptr(), dst.len());
+    // SAFETY: the pointers and lengths are those of two slices that do not overlap, and of a local.
+    placed(|place| unsafe { call(depth, s, n, d, m, place) })
 }
 
 pub fn from_srgb(depth: u32, src: &[u8], dst: &mut [u8]) -> Given {
@@ -148,20 +131,9 @@ pub fn to_srgb(depth: u32, src: &[u8], dst: &mut [u8]) -> Given {
 }
 
 pub fn change_depth(from: u32, to: u32, src: &[u8], dst: &mut [u8]) -> Given {
-    let mut place = UNWRITTEN;
+    let (s, n, d, m) = (src.as_ptr(), src.len(), dst.as_mut_ptr(), dst.len());
     // SAFETY: as of `convert`.
-    let answer = unsafe {
-        c::kiosk_change_depth(
-            from,
-            to,
-            src.as_ptr(),
-            src.len(),
-            dst.as_mut_ptr(),
-            dst.len(),
-            &mut place,
-        )
-    };
-    given(answer, place)
+    placed(|place| unsafe { c::kiosk_change_depth(from, to, s, n, d, m, place) })
 }
 
 pub fn to_luma_chroma(depth: u32, src: &[u8], dst: &mut [u8]) -> Given {
@@ -196,19 +168,9 @@ pub fn round_trip(depth: u32, codes: &[u8], ycc: &mut [u8], back: &mut [u8]) -> 
 }
 
 pub fn code_to_light(depth: u32, src: &[u8], dst: &mut [i32]) -> Given {
-    let mut place = UNWRITTEN;
+    let (s, n, d, m) = (src.as_ptr(), src.len(), dst.as_mut_ptr(), dst.len());
     // SAFETY: as of `convert`; the destination's length counts numbers.
-    let answer = unsafe {
-        c::kiosk_code_to_light(
-            depth,
-            src.as_ptr(),
-            src.len(),
-            dst.as_mut_ptr(),
-            dst.len(),
-            &mut place,
-        )
-    };
-    given(answer, place)
+    placed(|place| unsafe { c::kiosk_code_to_light(depth, s, n, d, m, place) })
 }
 
 pub fn light_to_code(depth: u32, src: &[i32], dst: &mut [u8]) -> Given {
@@ -245,18 +207,13 @@ pub fn step(file: &[u8], next: &mut usize) -> (i64, Record) {
 }
 
 pub fn lay_out(records: &[Record], shop: u16, dst: &mut [u8]) -> Given {
-    let mut place = UNWRITTEN;
+    let (r, n, d, m) = (
+        records.as_ptr(),
+        size_of_val(records),
+        dst.as_mut_ptr(),
+        dst.len(),
+    );
     // SAFETY: a record is 16 bytes with no padding, so the records' bytes are those of the slice; it does
     // not overlap the destination.
-    let answer = unsafe {
-        c::kiosk_lay_out(
-            records.as_ptr(),
-            size_of_val(records),
-            shop,
-            dst.as_mut_ptr(),
-            dst.len(),
-            &mut place,
-        )
-    };
-    given(answer, place)
+    placed(|place| unsafe { c::kiosk_lay_out(r, n, shop, d, m, place) })
 }

@@ -1,6 +1,5 @@
 //! The kiosk command: what it prints and writes, and that bad input gives a clear error and no output.
 
-use kiosk::Record;
 use std::fs;
 use std::path::{Path, PathBuf};
 use std::process::{Command, Output};
@@ -25,26 +24,9 @@ fn text(bytes: &[u8]) -> String {
     String::from_utf8_lossy(bytes).into_owned()
 }
 
-/// The spool whose listing document 01 shows whole: two frames, of sRGB and of 10-bit e-sRGB.
+/// The sample spool, whose listing document 01 shows whole: two frames, of sRGB and of 10-bit e-sRGB; with red and blue for pixels.
 fn spool() -> Vec<u8> {
-    let srgb = Record {
-        width: 2,
-        height: 1,
-        kind: 1,
-        bits: 8,
-        copies: 1,
-        order: 501,
-        offset: 0,
-    };
-    let esrgb = Record {
-        width: 1,
-        kind: 2,
-        bits: 10,
-        copies: 3,
-        ..srgb
-    };
-    let mut file = vec![0; 56];
-    kiosk::lay_out(&[srgb, esrgb], 7, &mut file).expect("the spool is laid out");
+    let mut file = include_bytes!("../../../samples/two-frames.spool").to_vec();
     file[44..50].copy_from_slice(&[255, 0, 0, 0, 0, 255]);
     for (k, code) in [384u16, 384, 894].into_iter().enumerate() {
         file[50 + 2 * k..52 + 2 * k].copy_from_slice(&code.to_le_bytes());

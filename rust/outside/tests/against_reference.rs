@@ -1,10 +1,11 @@
-//! The proved library against the second implementation, from outside. Seeds are fixed; each part prints what
-//! it compared and stops the program at the first difference, with the input and both outputs.
+//! The proved library against the second implementation, from outside. Seeds are fixed; the parts run side by
+//! side, each prints what it compared, and a difference fails the program, with the input and both outputs.
 
 #![forbid(unsafe_code)]
 
 mod parts;
 
+use std::thread;
 use std::time::Instant;
 
 /// A part of the tests: what it compares, and the function that gives how many.
@@ -47,12 +48,15 @@ const PARTS: [Part; 9] = [
 ];
 
 fn main() {
-    for (what, part) in PARTS {
-        let start = Instant::now();
-        let count = part();
-        println!(
-            "{count:>12} {what} ({:.1} s)",
-            start.elapsed().as_secs_f64()
-        );
+    let running = PARTS.map(|(what, part)| {
+        let timed = move || {
+            let start = Instant::now();
+            (part(), start.elapsed().as_secs_f64())
+        };
+        (what, thread::spawn(timed))
+    });
+    for (what, part) in running {
+        let (count, seconds) = part.join().expect("a part has failed");
+        println!("{count:>12} {what} ({seconds:.1} s)");
     }
 }

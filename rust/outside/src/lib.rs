@@ -1,9 +1,10 @@
-//! What the outside tests share: random numbers with fixed seeds, destinations between guard bytes, and
+//! What the outside tests share: random numbers and records with fixed seeds, destinations between guard bytes, and
 //! the library's types beside the reference's.
 
 #![forbid(unsafe_code)]
 
 use reference::buffers::Conversion;
+use reference::spool::Record;
 
 /// SplitMix64: the same numbers at every run.
 pub struct Random(u64);
@@ -32,6 +33,20 @@ impl Random {
 
     pub fn bytes(&mut self, count: usize) -> Vec<u8> {
         (0..count).map(|_| self.number() as u8).collect()
+    }
+}
+
+/// A record that neither 6 nor 7 refuses, of a few pixels.
+pub fn sound_record(random: &mut Random) -> Record {
+    let (kind, bits) = random.pick(&[(1, 8), (2, 10), (2, 12), (2, 16), (3, 10), (3, 12), (3, 16)]);
+    Record {
+        offset: random.number() as u32,
+        width: 1 + random.below(3) as u16,
+        height: 1 + random.below(3) as u16,
+        kind,
+        bits,
+        copies: random.number() as u16,
+        order: random.number() as u32,
     }
 }
 

@@ -3,7 +3,7 @@
 
 #![forbid(unsafe_code)]
 
-use outside::Random;
+use outside::{sound_record, Random};
 use reference::spool::{lay_out, listing, Record};
 use std::fs::{self, File};
 use std::path::Path;
@@ -98,17 +98,7 @@ fn damaged_spools() {
     let mut random = Random::new(8);
     for _ in 0..500 {
         let frames = 1 + random.below(6) as usize;
-        let records: Vec<Record> = (0..frames)
-            .map(|_| Record {
-                width: 1 + random.below(3) as u16,
-                height: 1 + random.below(3) as u16,
-                kind: random.pick(&[2, 3]),
-                bits: random.pick(&[10, 12, 16]),
-                copies: random.number() as u16,
-                order: random.number() as u32,
-                offset: 0,
-            })
-            .collect();
+        let records: Vec<Record> = (0..frames).map(|_| sound_record(&mut random)).collect();
         let pixels: u64 = records.iter().map(Record::pixel_bytes).sum();
         let mut file = random.bytes(12 + 16 * frames + pixels as usize);
         lay_out(&records, random.number() as u16, &mut file).expect("sound records");

@@ -1,6 +1,6 @@
 //! Spool files.
 
-use outside::{guarded, said, Random};
+use outside::{guarded, said, sound_record, Random};
 use reference::spool::{self, Contents, Record};
 
 fn of_library(record: &Record) -> kiosk::Record {
@@ -81,19 +81,6 @@ fn compare(file: &[u8]) -> u64 {
     }
     assert_eq!(next, count, "a walk ends behind the last frame");
     compared
-}
-
-fn sound_record(random: &mut Random) -> Record {
-    let (kind, bits) = random.pick(&[(1, 8), (2, 10), (2, 12), (2, 16), (3, 10), (3, 12), (3, 16)]);
-    Record {
-        offset: random.number() as u32,
-        width: 1 + random.below(3) as u16,
-        height: 1 + random.below(3) as u16,
-        kind,
-        bits,
-        copies: random.number() as u16,
-        order: random.number() as u32,
-    }
 }
 
 /// A spool by the library's layout, which is also the reference's.

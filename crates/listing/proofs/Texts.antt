@@ -6,10 +6,10 @@ use native.Mathlib.Numerals.{add-one}
 use native.Mathlib.Omega.{arith}
 use mathlib.Core.Path.{_≡_, refl, sym, ap, _∙_}
 use mathlib.Core.Bool.{Bool, true, false}
-use mathlib.Core.List.{List, [], _∷_, _++_, append-assoc}
+use mathlib.Core.List.{List, [], _∷_, _++_, append-assoc, append-nil}
 use lib.Dec.{ltb}
-use lib.ListN.{length, drop, getD, drop-of-length-le, length-set}
-use lib.Seq.{drop-cons}
+use lib.ListN.{length, take, drop, set, getD, drop-of-length-le, length-set}
+use lib.Seq.{drop-cons, take-suc-set}
 use borrow.Author.Tests.{lt-ltb, le-ltb, ltb-true, ltb-false}
 use Rattle.listing.specs.Text.{digits, decimal, Buffer, put, written}
 
@@ -37,8 +37,24 @@ unfolding written
 written-within [] b h = h
 written-within (x ∷ xs) b h = written-within xs (put b x) (put-within b x h)
 
-pub ends : (d xs : List ℕ) (z : Buffer) → z ≡ written (record { bytes = d; at = 0 }) xs → (z ≡ written (record { bytes = d; at = 0 }) xs) × (z .at ≤ length (z .bytes))
-ends d xs z e = (e, rw e (written-within xs (record { bytes = d; at = 0 }) zero-le))
+-- A text for which there is room is written whole.
+written-whole : (xs : List ℕ) (b : Buffer) → b .at + length xs ≤ length (b .bytes) → take (written b xs .at) (written b xs .bytes) ≡ take (b .at) (b .bytes) ++ xs
+unfolding written
+written-whole [] b h = sym (append-nil (take (b .at) (b .bytes)))
+written-whole (x ∷ xs) b h =
+    let room : b .at < length (b .bytes) = omega arith in
+    let next : Buffer = record { bytes = set (b .bytes) (b .at) x; at = b .at + 1 } in
+    let one : take (b .at + 1) (set (b .bytes) (b .at) x) ≡ take (b .at) (b .bytes) ++ (x ∷ []) = rw (add-one (b .at)) (take-suc-set (b .bytes) (b .at) x room) in
+    let goes : put b x ≡ next = rw (lt-ltb _ _ room) in
+    ap (λ (w : Buffer). take (written w xs .at) (written w xs .bytes)) goes
+    ∙ written-whole xs next (rw length-set (omega arith))
+    ∙ ap (λ (l : List ℕ). l ++ xs) one
+    ∙ append-assoc (take (b .at) (b .bytes)) (x ∷ []) xs
+
+pub ends : (d xs : List ℕ) (z : Buffer) → z ≡ written (record { bytes = d; at = 0 }) xs
+    → (z ≡ written (record { bytes = d; at = 0 }) xs) × (z .at ≤ length (z .bytes)) × (length xs ≤ length d → take (z .at) (z .bytes) ≡ xs)
+ends d xs z e =
+    (e, rw e (written-within xs (record { bytes = d; at = 0 }) zero-le), λ room. rw e (written-whole xs (record { bytes = d; at = 0 }) (omega arith)))
 
 -- A text of which i bytes are written.
 module _ (text : List ℕ) (i : ℕ) (b : Buffer) where

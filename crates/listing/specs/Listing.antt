@@ -43,3 +43,7 @@ spoolText file (refused n) = refusedWord ++ fields (n ∷ [])
 -- "15 longer than 65,536 bytes; then Open's."
 abbrev pub listing : List ℕ → List ℕ
 listing file = cond (ltb 65536 (length file)) (refusedWord ++ fields (15 ∷ [])) (spoolText file (openSays file))
+
+-- So many bytes hold every listing: the heading and 255 lines, of which none is longer than 52 bytes.
+abbrev pub listingRoom : ℕ
+listingRoom = 16384

@@ -11,15 +11,17 @@ use spool::open;
 ghost use mathlib.Core.Path.{_≡_};
 ghost use mathlib.Core.List.{[], _∷_, _++_};
 ghost use Prim.Native.Nat.{_+_, _≤_};
-ghost use lib.ListN.{length};
+ghost use lib.ListN.{length, take};
 ghost use Rattle.records.specs.Layout.{headerIn};
 ghost use Rattle.spool.specs.Open.{openFault};
 ghost use Rattle.spool.specs.Find.{finds, findSaid};
 ghost use Rattle.listing.specs.Text.{decimal, put, written};
-ghost use Rattle.listing.specs.Listing.{refusedWord, fields, line, lines, listing};
+ghost use Rattle.listing.specs.Listing.{refusedWord, fields, line, lines, listing, listingRoom};
 
-// The longest file that is listed.
+// The longest file that is listed, and a length of text that no listing exceeds.
 pub const INPUT_LIMIT: usize = 65536;
+
+pub const LISTING_ROOM: usize = 16384;
 
 // One byte more, where the buffer has room.
 fn put_byte(out: &mut [u8], at: usize, byte: u8) -> usize
@@ -116,10 +118,12 @@ fn put_lines(file: &[u8], count: usize, out: &mut [u8], at: usize) -> usize
     next
 }
 
-// Writes the listing of a file into the buffer, from its start, and gives the length of the text.
+// Writes the listing of a file into the buffer, from its start, and gives the length of the text. What does
+// not fit is left out; in LISTING_ROOM bytes every listing fits.
 pub fn write_listing(file: &[u8], out: &mut [u8]) -> usize
     ensures { λ r. ⌜ record { bytes = now (out .exit); at = r } ≡ written (record { bytes = now (out .entry); at = 0 }) (listing (now (file .entry))) ⌝ }
     ensures within { λ r. ⌜ r ≤ length (now (out .exit)) ⌝ }
+    ensures whole { λ r. ⌜ (listingRoom ≤ length (now (out .entry)) → take r (now (out .exit)) ≡ listing (now (file .entry))) ⌝ }
 {
     if INPUT_LIMIT < file.len() {
         return put_refusal(out, 0, number(Refusal::InputTooLong));

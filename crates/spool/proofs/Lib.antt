@@ -1,3 +1,4 @@
 pub mod Tests
 pub mod OpenFaults
 pub mod FindFaults
+pub mod Small

@@ -15,20 +15,17 @@ read-full-requires c κs = search needs
 array-share-prefix-file : tie.Need-array-share-prefix-file
 array-share-prefix-file c = search needs
 
-slice-aggregate-write-listing : tie.Need-slice-aggregate-write-listing
-slice-aggregate-write-listing c = search needs
+slice-aggregate-list : tie.Need-slice-aggregate-list
+slice-aggregate-list c = search needs
 
-slice-aggregate-write-listing-2 : tie.Need-slice-aggregate-write-listing-2
-slice-aggregate-write-listing-2 c = search needs
-
-write-listing-requires : tie.Need-write-listing-requires
-write-listing-requires c κs = search needs
+list-requires : tie.Need-list-requires
+list-requires c κs = search needs
 
 array-share-prefix-text : tie.Need-array-share-prefix-text
 array-share-prefix-text c = search needs
 
 slice-aggregate-write-all : tie.Need-slice-aggregate-write-all
-slice-aggregate-write-all c = sym (length-take-le _ _ (c .before .before .write-listing .ensures .1))
+slice-aggregate-write-all c = sym (length-take-le _ _ (c .before .list .ensures .1))
 
 write-all-requires : tie.Need-write-all-requires
 write-all-requires c κs = search needs
@@ -43,9 +40,8 @@ main-spec =
     slice-aggregate-read-full
     read-full-requires
     array-share-prefix-file
-    slice-aggregate-write-listing
-    slice-aggregate-write-listing-2
-    write-listing-requires
+    slice-aggregate-list
+    list-requires
     array-share-prefix-text
     slice-aggregate-write-all
     write-all-requires

@@ -8,7 +8,8 @@ use Rattle.spool.specs.Open.{openSaid}
 use Rattle.spool.proofs.FindFaults.{opened}
 use Rattle.listing.specs.Text.{Buffer, written}
 use Rattle.listing.specs.Listing.{heading, refusedWord, fields, lines, listing}
-use Rattle.listing.proofs.Texts.{text-then, ends}
+use Rattle.listing.proofs.Texts.{text-then}
+use Rattle.listing.proofs.Fits.{answers}
 use Rattle.listing.proofs.Lines.{too-long, by-answer}
 use Rattle.listing.proofs.write_listing.Statement.{statement}
 use Rattle.listing.proofs.write_listing.Tie as tie
@@ -26,7 +27,7 @@ returns : tie.Need-returns
 returns c =
     let at = c .before .before .before .before .before .before .before .before .args in
     let b : Buffer = record { bytes = at .out .now; at = 0 } in
-    ends (at .out .now) (listing (at .file .now)) _
+    answers (at .file .now) (at .out .now) (λ i. c .before .before .before .before .before .before .before .shared-slice-known .given i .fits) _
     (c .before .before .put-refusal .ensures
     ∙ ap (λ (n : ℕ). written b (refusedWord ++ fields (n ∷ []))) (c .before .before .before .number .ensures)
     ∙ ap (written b) (sym (too-long (at .file .now) (c .before .before .before .before .before .if1 .taken))))
@@ -68,7 +69,7 @@ returns-2 c =
     let at = c .before .before .before .before .before .before .before .before .before .before .before .before .args in
     let b : Buffer = record { bytes = at .out .now; at = 0 } in
     let said = ap openSaid (sym (c .before .before .before .before .before .before .why .given .1)) ∙ c .before .before .before .before .before .before .before .before .«open» .ensures in
-    ends (at .out .now) (listing (at .file .now)) _
+    answers (at .file .now) (at .out .now) (λ i. c .before .before .before .before .before .before .before .before .before .before .before .shared-slice-known .given i .fits) _
     (c .before .before .put-refusal2 .ensures
     ∙ ap (λ (n : ℕ). written b (refusedWord ++ fields (n ∷ []))) (c .before .before .before .number2 .ensures)
     ∙ ap (written b) (sym (by-answer (at .file .now) _ (c .before .before .before .before .before .before .before .before .before .if1 .left) said)))
@@ -82,7 +83,7 @@ returns-3 c =
     let b : Buffer = record { bytes = at .out .now; at = 0 } in
     let count = c .before .before .before .before .before .before .before .before .before .before .before .contents .given .0 .0 .count in
     let said = ap openSaid (sym (c .before .before .before .before .before .before .before .before .before .before .before .contents .given .1)) ∙ c .before .before .before .before .before .before .before .before .before .before .before .before .before .«open» .ensures in
-    ends (at .out .now) (listing (at .file .now)) _
+    answers (at .file .now) (at .out .now) (λ i. c .before .before .before .before .before .before .before .before .before .before .before .before .before .before .before .before .shared-slice-known .given i .fits) _
     (text-then b heading (lines (at .file .now) count 0) (c .before .before .before .before .before .before .before .put-text .ensures) (c .before .before .put-lines .ensures)
     ∙ ap (written b) (sym (by-answer (at .file .now) _ (c .before .before .before .before .before .before .before .before .before .before .before .before .before .before .if1 .left) said)))
 

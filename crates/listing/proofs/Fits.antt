@@ -1,0 +1,84 @@
+-- Every listing is short: 255 lines of at most 52 bytes under the heading.
+-- Assumes nothing.
+use Prim.Native.Nat.{ℕ, zero, suc, _+_, _*_, _/_, _^_, _≤_, _<_}
+use native.Mathlib.Nat.{pow-suc, div-lt-iff-lt-mul}
+use native.Mathlib.Omega.{arith}
+use mathlib.Core.Path.{_≡_, refl}
+use mathlib.Core.Bool.{Bool, true, false, cond}
+use mathlib.Core.List.{List, [], _∷_, _++_}
+use lib.Dec.{eqb, ltb}
+use lib.ListN.{length, take, length-append}
+use borrow.Author.Tests.{ltb-true, ltb-false, eqb-true}
+use Rattle.records.specs.Layout.{headerIn}
+use Rattle.records.proofs.Small.{Bytes, Small}
+use Rattle.spool.specs.Open.{openFault, openSays}
+use Rattle.spool.specs.Find.{FindSaid, finds, refused, findFault, noRecord, findSays, recordAt}
+use Rattle.spool.proofs.OpenFaults.{sound}
+use Rattle.spool.proofs.Small.{open-fault-small, find-fault-small, record-at-small}
+use Rattle.listing.specs.Text.{decimal, Buffer, written}
+use Rattle.listing.specs.Listing.{refusedWord, fields, line, lines, spoolText, listing, listingRoom}
+use Rattle.listing.proofs.Texts.{one-digit, more-digits, ends}
+
+-- A number below a power of ten has no more digits than that power.
+decimal-short : (d n : ℕ) → n < 10 ^ suc d → length (decimal n) ≤ suc d
+decimal-short zero n h = rw (one-digit n (omega arith)) (omega arith)
+decimal-short (suc d) n h = by-test (ltb n 10) refl (decimal-short d (n / 10)) where
+  by-test : (t : Bool) → ltb n 10 ≡ t → (n / 10 < 10 ^ suc d → length (decimal (n / 10)) ≤ suc d) → length (decimal n) ≤ suc (suc d)
+  by-test true e rest = rw (one-digit n (ltb-true n 10 e)) (omega arith)
+  by-test false e rest =
+      let below : n / 10 < 10 ^ suc d = div-lt-iff-lt-mul {k = 10} (omega arith) .1 (rw pow-suc at h) in
+      rw (more-digits n (ltb-false n 10 e), length-append) (omega (arith, rest below))
+
+-- The answers of Find that a file of bytes gives.
+abbrev Short : FindSaid → Type 0
+Short (finds r) = Small r
+Short (refused n r) = n < 10
+
+line-short : (k : ℕ) (s : FindSaid) → k < 1000 → Short s → length (line k s) ≤ 52
+line-short k (finds r) below small =
+    let number = decimal-short 2 k (omega arith) in
+    let order = decimal-short 9 (r .order) (omega (arith, small .order)) in
+    let kind = decimal-short 2 (r .kind) (omega (arith, small .kind)) in
+    let bits = decimal-short 2 (r .bits) (omega (arith, small .bits)) in
+    let width = decimal-short 4 (r .width) (omega (arith, small .width)) in
+    let height = decimal-short 4 (r .height) (omega (arith, small .height)) in
+    let copies = decimal-short 4 (r .copies) (omega (arith, small .copies)) in
+    let offset = decimal-short 9 (r .offset) (omega (arith, small .offset)) in
+    simp length-append (omega (arith, number, order, kind, bits, width, height, copies, offset))
+line-short k (refused n r) below small =
+    let number = decimal-short 2 k (omega arith) in
+    let why = decimal-short 0 n (omega (arith, small)) in
+    simp length-append (omega (arith, number, why))
+
+found-short : (file : List ℕ) → Bytes file → (k : ℕ) → Short (findSays file k)
+found-short file held k = by-test (eqb (findFault file k) 0) where
+  by-test : (t : Bool) → Short (cond t (finds (recordAt file k)) (refused (findFault file k) noRecord))
+  by-test true = record-at-small file held k
+  by-test false = find-fault-small file k
+
+lines-short : (file : List ℕ) → Bytes file → (left k : ℕ) → k + left ≤ 1000 → length (lines file left k) ≤ 52 * left
+unfolding lines
+lines-short file held zero k h = omega arith
+lines-short file held (suc left) k h =
+    let first = line-short k (findSays file k) (omega arith) (found-short file held k) in
+    let others = lines-short file held left (k + 1) (omega arith) in
+    simp length-append (omega (arith, first, others))
+
+pub listing-short : (file : List ℕ) → Bytes file → length (listing file) ≤ listingRoom
+listing-short file held = by-length (ltb 65536 (length file)) where
+  by-fault : (t : Bool) → eqb (openFault file) 0 ≡ t → length (spoolText file (openSays file)) ≤ 16384
+  by-fault true e =
+      let few = sound file (eqb-true (openFault file) 0 e) .few in
+      rw e (simp length-append (omega (arith, few, lines-short file held (headerIn file .count) 0 (omega arith))))
+  by-fault false e = rw e (simp length-append (omega (arith, decimal-short 0 (openFault file) (open-fault-small file))))
+
+  by-length : (t : Bool) → length (cond t (refusedWord ++ fields (15 ∷ [])) (spoolText file (openSays file))) ≤ 16384
+  by-length true = simp length-append (omega (arith, decimal-short 1 15 (omega arith)))
+  by-length false = by-fault (eqb (openFault file) 0) refl
+
+-- What a listing leaves in a buffer, and all of it where there is room for every listing.
+pub answers : (file d : List ℕ) → Bytes file → (z : Buffer) → z ≡ written (record { bytes = d; at = 0 }) (listing file)
+    → (z ≡ written (record { bytes = d; at = 0 }) (listing file)) × ((z .at ≤ length (z .bytes)) × (listingRoom ≤ length d → take (z .at) (z .bytes) ≡ listing file))
+answers file d held z e =
+    let end = ends d (listing file) z e in
+    (end .0, (end .1, λ room. end .2 (omega (arith, listing-short file held))))

@@ -96,7 +96,7 @@ fn samples_as_stored() {
 #[test]
 fn damaged_spools() {
     let mut random = Random::new(8);
-    for _ in 0..500 {
+    for _ in 0..200 {
         let frames = 1 + random.below(6) as usize;
         let records: Vec<Record> = (0..frames).map(|_| sound_record(&mut random)).collect();
         let pixels: u64 = records.iter().map(Record::pixel_bytes).sum();

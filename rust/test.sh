@@ -3,8 +3,8 @@
 # fails if anything fails. It needs rt, a C compiler and cargo, and makes libkiosk.a and list where they are not there.
 set -euo pipefail
 cd "$(dirname "$0")"
-log=$(mktemp)
-trap 'rm -f "$log"' EXIT
+log=$(mktemp) made=$(mktemp)
+trap 'rm -f "$log" "$made"' EXIT
 quietly() {
     "$@" >"$log" 2>&1 || {
         cat "$log"
@@ -14,9 +14,16 @@ quietly() {
 if cargo fmt --version >"$log" 2>&1; then
     quietly cargo fmt --check
 fi
-quietly cargo build --offline --workspace --all-targets
+# The archive takes a proof of its own: what does not need it is built and run meanwhile.
+[ -e ../target/staticlib/libkiosk.a ] || rt staticlib kiosk >"$made" 2>&1 &
+quietly cargo test --offline --package reference
 quietly diff <(cargo run --quiet --offline --package reference --bin vectors) ../crates/vectors/stdout
-quietly cargo test --offline --workspace --exclude outside
+wait $! || {
+    cat "$made"
+    exit 1
+}
+quietly cargo build --offline --workspace --all-targets
+quietly cargo test --offline --package kiosk --package bench
 quietly cargo run --offline --package kiosk --example red
 quietly rt check list
 quietly cargo test --offline --package outside --test c_interface --test listing

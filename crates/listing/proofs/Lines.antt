@@ -1,16 +1,18 @@
 -- Laws of the listing: one frame more and none left, and the whole by the answer of Open.
 -- Assumes nothing.
 use Prim.Native.Nat.{ℕ, suc, _+_, _-_, _≤_, _<_}
+use native.Mathlib.Numerals.{add-one}
 use native.Mathlib.Omega.{arith}
-use mathlib.Core.Path.{_≡_, refl, ap, _∙_}
+use mathlib.Core.Path.{_≡_, refl, sym, ap, _∙_}
 use mathlib.Core.List.{List, [], _∷_, _++_}
-use lib.ListN.{length}
+use lib.ListN.{length, drop, getD, drop-of-length-le}
+use lib.Seq.{drop-cons}
 use borrow.Author.Tests.{lt-ltb, le-ltb}
 use Rattle.spool.specs.Open.{OpenSaid, openSays}
 use Rattle.spool.specs.Find.{FindSaid, findSays}
-use Rattle.listing.specs.Text.{Buffer, written}
+use Rattle.listing.specs.Text.{decimal, Buffer, written}
 use Rattle.listing.specs.Listing.{refusedWord, fields, line, lines, spoolText, listing}
-use Rattle.listing.proofs.Texts.{text-then}
+use Rattle.listing.proofs.Texts.{text-then, field-then}
 
 -- The lines from frame k on, once its own is written.
 pub one-more : (file : List ℕ) (count k : ℕ) (b : Buffer) {b′ : Buffer} {f : FindSaid} → k < count → b′ ≡ written b (line k f) → f ≡ findSays file k
@@ -32,3 +34,34 @@ too-long file h = rw (lt-ltb _ _ h)
 
 pub by-answer : (file : List ℕ) (s : OpenSaid) → length file ≤ 65536 → s ≡ openSays file → listing file ≡ spoolText file s
 by-answer file s h e = rw (le-ltb _ _ h, ← e)
+
+-- The fields from field i on, once its own is written with what stands behind it: a space, or a line feed after the last.
+module _ (ns : List ℕ) (i : ℕ) (below : i < length ns) (b : Buffer) {b′ : Buffer} (e : ℕ) (p : b′ ≡ written b (decimal (getD ns i 0) ++ (e ∷ []))) where
+  here : fields (getD ns i 0 ∷ drop (i + 1) ns) ≡ fields (drop i ns)
+  here = sym (ap fields (drop-cons ns i 0 below ∙ ap (λ (k : ℕ). getD ns i 0 ∷ drop k ns) (sym (add-one i))))
+
+  pub field-more : i + 1 < length ns → e ≡ 32 → written b′ (fields (drop (i + 1) ns)) ≡ written b (fields (drop i ns))
+  field-more more is =
+      let n = getD ns i 0 in
+      let rest = drop (i + 1) ns in
+      let next = drop-cons ns (i + 1) 0 more in
+      field-then b n e (fields rest) p refl
+      ∙ ap (λ (x : ℕ). written b (decimal n ++ (x ∷ fields rest))) is
+      ∙ ap (λ (l : List ℕ). written b (decimal n ++ (32 ∷ fields l))) next
+      ∙ ap (λ (l : List ℕ). written b (fields (n ∷ l))) (sym next)
+      ∙ ap (written b) here
+
+  pub field-last : length ns ≤ i + 1 → e ≡ 10 → written b′ (fields (drop (i + 1) ns)) ≡ written b (fields (drop i ns))
+  field-last last is =
+      let n = getD ns i 0 in
+      let rest = drop (i + 1) ns in
+      let none = drop-of-length-le ns last in
+      field-then b n e (fields rest) p refl
+      ∙ ap (λ (x : ℕ). written b (decimal n ++ (x ∷ fields rest))) is
+      ∙ ap (λ (l : List ℕ). written b (decimal n ++ (10 ∷ fields l))) none
+      ∙ ap (λ (l : List ℕ). written b (fields (n ∷ l))) (sym none)
+      ∙ ap (written b) here
+
+pub no-fields-left : (ns : List ℕ) (i : ℕ) (b : Buffer) → length ns ≤ i → written b (fields (drop i ns)) ≡ b
+unfolding written
+no-fields-left ns i b past = ap (λ (l : List ℕ). written b (fields l)) (drop-of-length-le ns past)

@@ -67,18 +67,35 @@ fn put_field(out: &mut [u8], at: usize, n: usize, end: u8) -> usize
     put_byte(out, next, end)
 }
 
+// Numbers as the fields of a line.
+fn put_fields(out: &mut [u8], at: usize, numbers: &[usize]) -> usize
+    ensures { λ r. ⌜ record { bytes = now (out .exit); at = r } ≡ written (record { bytes = now (out .entry); at = at }) (fields (now (numbers .entry))) ⌝ }
+{
+    let mut next = at;
+    let mut i: usize = 0;
+    while i < numbers.len() {
+        let end = if i + 1 < numbers.len() { b' ' } else { b'\n' };
+        next = put_field(out, next, numbers[i], end);
+        i = i + 1;
+    }
+    next
+}
+
 // The line of a frame that is found.
 fn put_frame(out: &mut [u8], at: usize, number: usize, frame: FrameRecord) -> usize
     ensures { λ r. ⌜ record { bytes = now (out .exit); at = r } ≡ written (record { bytes = now (out .entry); at = at }) (line number (finds frame)) ⌝ }
 {
-    let order = put_field(out, at, number, b' ');
-    let kind = put_field(out, order, frame.order as usize, b' ');
-    let bits = put_field(out, kind, frame.kind as usize, b' ');
-    let width = put_field(out, bits, frame.bits as usize, b' ');
-    let height = put_field(out, width, frame.width as usize, b' ');
-    let copies = put_field(out, height, frame.height as usize, b' ');
-    let offset = put_field(out, copies, frame.copies as usize, b' ');
-    put_field(out, offset, frame.offset as usize, b'\n')
+    let numbers = [
+        number,
+        frame.order as usize,
+        frame.kind as usize,
+        frame.bits as usize,
+        frame.width as usize,
+        frame.height as usize,
+        frame.copies as usize,
+        frame.offset as usize,
+    ];
+    put_fields(out, at, &numbers)
 }
 
 // The word `refused`, a refusal's number and the end of the line.

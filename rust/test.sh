@@ -16,9 +16,10 @@ if cargo fmt --version >"$log" 2>&1; then
 fi
 # The archive takes a proof of its own: what does not need it is built and run meanwhile.
 [ -e ../target/staticlib/libkiosk.a ] || rt staticlib kiosk >"$made" 2>&1 &
+archive=$!
 quietly cargo test --offline --package reference
 quietly diff <(cargo run --quiet --offline --package reference --bin vectors) ../crates/vectors/stdout
-wait $! || {
+wait "$archive" || {
     cat "$made"
     exit 1
 }

@@ -9,8 +9,9 @@ use mathlib.Core.List.{List, [], _∷_, _++_}
 use lib.Dec.{eqb, ltb}
 use lib.ListN.{length, take, length-append}
 use borrow.Author.Tests.{ltb-true, ltb-false, eqb-true}
+use Rattle.numbers.proofs.Bytes.{AllBytes}
 use Rattle.records.specs.Layout.{headerIn}
-use Rattle.records.proofs.Small.{Bytes, Small}
+use Rattle.records.proofs.Small.{Small}
 use Rattle.spool.specs.Open.{openFault, openSays}
 use Rattle.spool.specs.Find.{FindSaid, finds, refused, findFault, noRecord, findSays, recordAt}
 use Rattle.spool.proofs.OpenFaults.{sound}
@@ -50,35 +51,35 @@ line-short k (refused n r) below small =
     let why = decimal-short 0 n (omega (arith, small)) in
     simp length-append (omega (arith, number, why))
 
-found-short : (file : List ℕ) → Bytes file → (k : ℕ) → Short (findSays file k)
-found-short file held k = by-test (eqb (findFault file k) 0) where
+found-short : (file : List ℕ) → AllBytes file → (k : ℕ) → Short (findSays file k)
+found-short file all k = by-test (eqb (findFault file k) 0) where
   by-test : (t : Bool) → Short (cond t (finds (recordAt file k)) (refused (findFault file k) noRecord))
-  by-test true = record-at-small file held k
+  by-test true = record-at-small file all k
   by-test false = find-fault-small file k
 
-lines-short : (file : List ℕ) → Bytes file → (left k : ℕ) → k + left ≤ 1000 → length (lines file left k) ≤ 52 * left
+lines-short : (file : List ℕ) → AllBytes file → (left k : ℕ) → k + left ≤ 1000 → length (lines file left k) ≤ 52 * left
 unfolding lines
-lines-short file held zero k h = omega arith
-lines-short file held (suc left) k h =
-    let first = line-short k (findSays file k) (omega arith) (found-short file held k) in
-    let others = lines-short file held left (k + 1) (omega arith) in
+lines-short file all zero k h = omega arith
+lines-short file all (suc left) k h =
+    let first = line-short k (findSays file k) (omega arith) (found-short file all k) in
+    let others = lines-short file all left (k + 1) (omega arith) in
     simp length-append (omega (arith, first, others))
 
-pub listing-short : (file : List ℕ) → Bytes file → length (listing file) ≤ listingRoom
-listing-short file held = by-length (ltb 65536 (length file)) where
-  by-fault : (t : Bool) → eqb (openFault file) 0 ≡ t → length (spoolText file (openSays file)) ≤ 16384
+pub listing-short : (file : List ℕ) → AllBytes file → length (listing file) ≤ listingRoom
+listing-short file all = by-length (ltb 65536 (length file)) where
+  by-fault : (t : Bool) → eqb (openFault file) 0 ≡ t → length (spoolText file (openSays file)) ≤ listingRoom
   by-fault true e =
       let few = sound file (eqb-true (openFault file) 0 e) .few in
-      rw e (simp length-append (omega (arith, few, lines-short file held (headerIn file .count) 0 (omega arith))))
+      rw e (simp length-append (omega (arith, few, lines-short file all (headerIn file .count) 0 (omega arith))))
   by-fault false e = rw e (simp length-append (omega (arith, decimal-short 0 (openFault file) (open-fault-small file))))
 
-  by-length : (t : Bool) → length (cond t (refusedWord ++ fields (15 ∷ [])) (spoolText file (openSays file))) ≤ 16384
+  by-length : (t : Bool) → length (cond t (refusedWord ++ fields (15 ∷ [])) (spoolText file (openSays file))) ≤ listingRoom
   by-length true = simp length-append (omega (arith, decimal-short 1 15 (omega arith)))
   by-length false = by-fault (eqb (openFault file) 0) refl
 
 -- What a listing leaves in a buffer, and all of it where there is room for every listing.
-pub answers : (file d : List ℕ) → Bytes file → (z : Buffer) → z ≡ written (record { bytes = d; at = 0 }) (listing file)
+pub answers : (file d : List ℕ) → AllBytes file → (z : Buffer) → z ≡ written (record { bytes = d; at = 0 }) (listing file)
     → (z ≡ written (record { bytes = d; at = 0 }) (listing file)) × ((z .at ≤ length (z .bytes)) × (listingRoom ≤ length d → take (z .at) (z .bytes) ≡ listing file))
-answers file d held z e =
+answers file d all z e =
     let end = ends d (listing file) z e in
-    (end .0, (end .1, λ room. end .2 (omega (arith, listing-short file held))))
+    (end .0, (end .1, λ room. end .2 (omega (arith, listing-short file all))))

@@ -1,4 +1,4 @@
--- Laws of the listing: one frame more and none left, and the whole by the answer of Open.
+-- Laws of the listing: one frame more and none left, one field more and none left, and the whole by the answer of Open.
 -- Assumes nothing.
 use Prim.Native.Nat.{ℕ, suc, _+_, _-_, _≤_, _<_}
 use native.Mathlib.Numerals.{add-one}
@@ -40,27 +40,21 @@ module _ (ns : List ℕ) (i : ℕ) (below : i < length ns) (b : Buffer) {b′ : 
   here : fields (getD ns i 0 ∷ drop (i + 1) ns) ≡ fields (drop i ns)
   here = sym (ap fields (drop-cons ns i 0 below ∙ ap (λ (k : ℕ). getD ns i 0 ∷ drop k ns) (sym (add-one i))))
 
-  pub field-more : i + 1 < length ns → e ≡ 32 → written b′ (fields (drop (i + 1) ns)) ≡ written b (fields (drop i ns))
-  field-more more is =
+  one-field : (l : List ℕ) → drop (i + 1) ns ≡ l → decimal (getD ns i 0) ++ (e ∷ fields l) ≡ fields (getD ns i 0 ∷ l)
+      → written b′ (fields (drop (i + 1) ns)) ≡ written b (fields (drop i ns))
+  one-field l are one =
       let n = getD ns i 0 in
-      let rest = drop (i + 1) ns in
-      let next = drop-cons ns (i + 1) 0 more in
-      field-then b n e (fields rest) p refl
-      ∙ ap (λ (x : ℕ). written b (decimal n ++ (x ∷ fields rest))) is
-      ∙ ap (λ (l : List ℕ). written b (decimal n ++ (32 ∷ fields l))) next
-      ∙ ap (λ (l : List ℕ). written b (fields (n ∷ l))) (sym next)
+      field-then b n e (fields (drop (i + 1) ns)) p refl
+      ∙ ap (λ (m : List ℕ). written b (decimal n ++ (e ∷ fields m))) are
+      ∙ ap (written b) one
+      ∙ ap (λ (m : List ℕ). written b (fields (n ∷ m))) (sym are)
       ∙ ap (written b) here
 
+  pub field-more : i + 1 < length ns → e ≡ 32 → written b′ (fields (drop (i + 1) ns)) ≡ written b (fields (drop i ns))
+  field-more more is = one-field _ (drop-cons ns (i + 1) 0 more) (ap (λ (x : ℕ). decimal (getD ns i 0) ++ (x ∷ fields (getD ns (i + 1) 0 ∷ drop (suc (i + 1)) ns))) is)
+
   pub field-last : length ns ≤ i + 1 → e ≡ 10 → written b′ (fields (drop (i + 1) ns)) ≡ written b (fields (drop i ns))
-  field-last last is =
-      let n = getD ns i 0 in
-      let rest = drop (i + 1) ns in
-      let none = drop-of-length-le ns last in
-      field-then b n e (fields rest) p refl
-      ∙ ap (λ (x : ℕ). written b (decimal n ++ (x ∷ fields rest))) is
-      ∙ ap (λ (l : List ℕ). written b (decimal n ++ (10 ∷ fields l))) none
-      ∙ ap (λ (l : List ℕ). written b (fields (n ∷ l))) (sym none)
-      ∙ ap (written b) here
+  field-last last is = one-field [] (drop-of-length-le ns last) (ap (λ (x : ℕ). decimal (getD ns i 0) ++ (x ∷ [])) is)
 
 pub no-fields-left : (ns : List ℕ) (i : ℕ) (b : Buffer) → length ns ≤ i → written b (fields (drop i ns)) ≡ b
 unfolding written

@@ -1,7 +1,9 @@
--- A number that k bytes can hold is read back from its low k bytes.
+-- A number that k bytes can hold is read back from its low k bytes, and k bytes hold no greater one.
 -- Assumes nothing.
 use Prim.Native.Nat.{ℕ, zero, suc, _/_, _^_, _<_}
 use mathlib.Core.Path.{_≡_}
+use mathlib.Core.List.{List, [], _∷_}
+use lib.ListN.{getD, take}
 use native.Mathlib.Omega.{arith}
 use native.Mathlib.Nat.{pow-suc, div-lt-iff-lt-mul}
 use Rattle.numbers.specs.Bytes.{littleEndian, lowBytes}
@@ -11,3 +13,14 @@ held zero v h = omega arith
 held (suc k) v h =
     let above : v / 256 < 256 ^ k = div-lt-iff-lt-mul {k = 256} (omega arith) .1 (rw pow-suc at h) in
     omega (arith, held k (v / 256) above)
+
+abbrev pub AllBytes : List ℕ → Type 0
+AllBytes bytes = (i : ℕ) → getD bytes i 0 < 256
+
+pub number-below : (k : ℕ) (bytes : List ℕ) → AllBytes bytes → littleEndian (take k bytes) < 256 ^ k
+number-below zero bytes all = omega arith
+number-below (suc k) [] all = rw pow-suc (omega (arith, number-below k [] all))
+number-below (suc k) (b ∷ bytes) all =
+    let low = all 0 in
+    let rest = number-below k bytes (λ i. all (suc i)) in
+    rw pow-suc (omega (arith, low, rest))

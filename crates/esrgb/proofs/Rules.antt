@@ -10,7 +10,7 @@ use Rattle.numbers.specs.Rounding.{nearest}
 use Rattle.esrgb.specs.declared.SampleRule.the-variants.{Affine, ToEight, Drop}
 use Rattle.esrgb.specs.Depths.{offset, step}
 use Rattle.esrgb.specs.Codes.{fromSrgb, toSrgb, changeDepth}
-use Rattle.esrgb.specs.Rules.{applied, Computes}
+use Rattle.esrgb.specs.HowApplied.{applied, Computes}
 use Rattle.esrgb.proofs.Scale.{Scale}
 
 -- (a + h) ÷ 2h, where a is what x is above 384h, needs no look at which is greater: below 383h both sides are 0

@@ -1,3 +1,3 @@
 pub mod Depths
 pub mod Codes
-pub mod Rules
+pub mod HowApplied

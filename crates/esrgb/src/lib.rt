@@ -4,7 +4,7 @@
 ghost use mathlib.Core.Path.{_≡_};
 ghost use Rattle.esrgb.specs.Depths.{bits, Names, greatest, step};
 ghost use Rattle.esrgb.specs.Codes.{fromSrgb, toSrgb, changeDepth};
-ghost use Rattle.esrgb.specs.Rules.{applied, ruleOf, Computes};
+ghost use Rattle.esrgb.specs.HowApplied.{applied, ruleOf, Computes};
 
 // A depth of e-sRGB.
 pub enum Depth {

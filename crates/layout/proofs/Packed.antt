@@ -11,7 +11,7 @@ use Rattle.refusal.specs.declared.Answer.the-variants.{Done}
 use Rattle.records.specs.Layout.{recordIn}
 use Rattle.spool.specs.Find.{noRecord}
 use Rattle.placement.specs.declared.Progress.{Progress}
-use Rattle.placement.specs.Pass.{State, stateOf, visited, walked, readied, laid}
+use Rattle.placement.specs.HowLaidOut.{State, stateOf, visited, walked, readied, laid}
 use Rattle.placement.proofs.Laid.{LaidOut, start-state, is-laid}
 use Rattle.layout.specs.Packed.{firstRecords, recordsIn}
 use Rattle.layout.proofs.Passes.{one-more, none-left}

@@ -14,7 +14,7 @@ ghost use mathlib.Core.Path.{_≡_};
 ghost use lib.ListN.{length};
 ghost use Rattle.refusal.specs.Answers.{said, leaves};
 ghost use Rattle.placement.specs.LayOut.{layoutSays, layoutBytes};
-ghost use Rattle.placement.specs.Pass.{stateOf, walked};
+ghost use Rattle.placement.specs.HowLaidOut.{stateOf, walked};
 ghost use Rattle.layout.specs.Packed.{recordsIn};
 
 // The one loop over the lent records: each is read by value and visited.

@@ -13,7 +13,7 @@ use Rattle.esrgb.specs.Depths.{step}
 use Rattle.esrgb.proofs.Scale.{Scale}
 use Rattle.transfer.specs.Light.{scale, lightOfLevel, lightOfCode}
 use Rattle.transfer.specs.Level.{levelOfLight, codeOfLight}
-use Rattle.transfer.specs.Tables.{levels}
+use Rattle.transfer.specs.HowTabled.{levels}
 use Rattle.linear.proofs.Sign.{not-negative}
 
 -- The light of the distance, with the sign, is the light of the code.

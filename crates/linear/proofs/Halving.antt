@@ -12,7 +12,7 @@ use Rattle.esrgb.specs.Depths.{step}
 use Rattle.esrgb.proofs.Scale.{Scale}
 use Rattle.transfer.specs.Light.{scale}
 use Rattle.transfer.specs.Level.{levelOfLight}
-use Rattle.transfer.specs.Tables.{levels, ThresholdTable}
+use Rattle.transfer.specs.HowTabled.{levels, ThresholdTable}
 
 -- The level looked for: that of the light, at most the greatest of a code.
 abbrev pub found : ℕ → ℕ → ℕ

@@ -24,7 +24,7 @@ ghost use Rattle.samples.specs.Samples.{twoByTwo};
 ghost use Rattle.esrgb.specs.Depths.{bits};
 ghost use Rattle.transfer.specs.Light.{offersLight, scale, lightOfCode};
 ghost use Rattle.transfer.specs.Level.{levelOfLight, codeOfLight};
-ghost use Rattle.transfer.specs.Tables.{levels, LightTable, ThresholdTable};
+ghost use Rattle.transfer.specs.HowTabled.{levels, LightTable, ThresholdTable};
 ghost use Rattle.linear.specs.Operations.{codesToLightSays, codesToLight, lightToCodesSays, lightToCodes};
 
 // Codes to light: from two-byte samples, three to a pixel, to a number each. A depth other than 10

@@ -9,7 +9,7 @@ use Rattle.esrgb.specs.declared.Depth.{Depth}
 use Rattle.esrgb.specs.Depths.{bits, greatest, middle}
 use Rattle.esrgb.proofs.Scale.{scale}
 use Rattle.lumachroma.specs.LumaChroma.{clipped}
-use Rattle.lumachroma.specs.Quotient.{InRange, Biased, clippedAt}
+use Rattle.lumachroma.specs.HowDivided.{InRange, Biased, clippedAt}
 
 module _ {up down den : ℕ} (s : InRange up down den) where
   -- Half of den less one is added: so a tie goes down.

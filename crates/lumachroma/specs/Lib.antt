@@ -1,3 +1,3 @@
 pub mod LumaChroma
 pub mod Near
-pub mod Quotient
+pub mod HowDivided

@@ -7,7 +7,7 @@ ghost use mathlib.Core.Path.{_≡_};
 ghost use Prim.Native.Nat.{_+_, _-_, _*_, _≤_, min};
 ghost use Rattle.esrgb.specs.Depths.{bits, middle};
 ghost use Rattle.lumachroma.specs.LumaChroma.{chroma, toLumaChroma, toRgb};
-ghost use Rattle.lumachroma.specs.Quotient.{InRange, Biased, Middle, clippedAt};
+ghost use Rattle.lumachroma.specs.HowDivided.{InRange, Biased, Middle, clippedAt};
 
 // A pixel of e-sRGB codes.
 pub struct Rgb {

@@ -21,7 +21,7 @@ use Rattle.picture.specs.declared.Conversion.{Conversion}
 use Rattle.picture.specs.declared.Conversion.the-variants.{FromSrgb, ToSrgb, ChangeDepth, ToLumaChroma, FromLumaChroma}
 use Rattle.picture.specs.Forms.{hasChroma, wideForm, source, offers}
 use Rattle.picture.specs.Convert.{needed, sourceSays, convertSays, converted, convertBytes}
-use Rattle.picture.specs.Rules.{fromDepth, toDepth, Named, Fit}
+use Rattle.picture.specs.HowConverted.{fromDepth, toDepth, Named, Fit}
 
 -- ---- depths
 offers-both : (c : Conversion) → offered (fromDepth c) ≡ true → offered (toDepth c) ≡ true → offers c ≡ true

@@ -10,11 +10,11 @@ use Rattle.samples.specs.Samples.{place, pixelSize, samplesOf, sampleBytes, byt
 use Rattle.samples.proofs.Reading.{length-two}
 use Rattle.samples.proofs.Buffers.{length-read}
 use Rattle.esrgb.specs.declared.SampleRule.{SampleRule}
-use Rattle.esrgb.specs.Rules.{applied, Computes}
+use Rattle.esrgb.specs.HowApplied.{applied, Computes}
 use Rattle.picture.specs.declared.Conversion.{Conversion}
 use Rattle.picture.specs.Forms.{wideForm, source, target}
 use Rattle.picture.specs.Convert.{each, pixelOf, converted}
-use Rattle.picture.specs.Rules.{Fit}
+use Rattle.picture.specs.HowConverted.{Fit}
 
 -- ---- lengths
 room-for : (w v : Bool) (src dst : List ℕ) → length src % pixelSize w ≡ 0 → length dst ≡ pixelSize v * (length src / pixelSize w)

@@ -1,3 +1,3 @@
 pub mod Forms
 pub mod Convert
-pub mod Rules
+pub mod HowConverted

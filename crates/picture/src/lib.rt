@@ -19,10 +19,10 @@ ghost use lib.ListN.{length, getD, take};
 ghost use Rattle.refusal.specs.Answers.{said};
 ghost use Rattle.samples.specs.Samples.{place, samplesOf, sampleBytes, bytesOf, read, write};
 ghost use Rattle.esrgb.specs.Depths.{bits};
-ghost use Rattle.esrgb.specs.Rules.{applied, ruleOf};
+ghost use Rattle.esrgb.specs.HowApplied.{applied, ruleOf};
 ghost use Rattle.picture.specs.Forms.{hasChroma, wideForm, source, target, offers};
 ghost use Rattle.picture.specs.Convert.{sourceSays, convertSays, converted, convertBytes};
-ghost use Rattle.picture.specs.Rules.{fromDepth, toDepth, Named, Offering, Fit, pixelIn, pixelApplied};
+ghost use Rattle.picture.specs.HowConverted.{fromDepth, toDepth, Named, Offering, Fit, pixelIn, pixelApplied};
 
 // The conversions of document 01. A depth is any number; 10, 12 and 16 are offered.
 pub enum Conversion {

@@ -16,7 +16,7 @@ use Rattle.records.specs.declared.FrameRecord.{FrameRecord}
 use Rattle.records.specs.Layout.{headerBytes}
 use Rattle.placement.specs.declared.Progress.{Progress}
 use Rattle.placement.specs.LayOut.{lengthLimit, pixelsFrom, allPixels, totalLength, judged, layoutSays, placed, tableBytes, headerOf, layoutBytes}
-use Rattle.placement.specs.Pass.{State, stateOf, recordPlace, walked, stopped, readied, laid}
+use Rattle.placement.specs.HowLaidOut.{State, stateOf, recordPlace, walked, stopped, readied, laid}
 use Rattle.placement.proofs.Checking.{stays-refused, stays-refused-at, Fine, summed, Checked, faulty, fine, check, sum-fits, sum-past}
 use Rattle.placement.proofs.Writing.{over-length, over-take, over-drop, write-all}
 

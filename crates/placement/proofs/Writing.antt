@@ -14,7 +14,7 @@ use Rattle.records.specs.declared.FrameRecord.{FrameRecord}
 use Rattle.records.specs.Layout.{recordBytes}
 use Rattle.records.specs.Faults.{pixelBytes, recordFault}
 use Rattle.placement.specs.LayOut.{allPixels, withOffset, placed, tableBytes}
-use Rattle.placement.specs.Pass.{recordPlace, visited, walked}
+use Rattle.placement.specs.HowLaidOut.{recordPlace, visited, walked}
 use Rattle.placement.proofs.Written.{in-place}
 use Rattle.placement.proofs.Checking.{Fine, none, one}
 

@@ -1,2 +1,2 @@
 pub mod LayOut
-pub mod Pass
+pub mod HowLaidOut

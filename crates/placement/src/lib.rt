@@ -18,7 +18,7 @@ ghost use mathlib.Core.Path.{_≡_};
 ghost use mathlib.Core.Bool.{false};
 ghost use Prim.Native.Nat.{_≤_};
 ghost use Rattle.refusal.specs.Answers.{accepted};
-ghost use Rattle.placement.specs.Pass.{stateOf, grown, written, visited, begun, readied};
+ghost use Rattle.placement.specs.HowLaidOut.{stateOf, grown, written, visited, begun, readied};
 
 // The greatest length that a header can say.
 const LENGTH_LIMIT: usize = 4294967295;

@@ -14,7 +14,7 @@ use Rattle.numbers.proofs.Booleans.{or-false, and-true, and-false}
 use Rattle.refusal.specs.Answers.{Said}
 use Rattle.samples.specs.Samples.{place, pixelSize, twoByTwo, samplesOf, Pixel, pixelsOf, read}
 use Rattle.samples.specs.Faults.{sound, fault, decides, judged}
-use Rattle.samples.specs.Look.{leastOf, allWithin, atFault, SoundTo}
+use Rattle.samples.specs.HowJudged.{leastOf, allWithin, atFault, SoundTo}
 use Rattle.samples.proofs.Reading.{length-two}
 
 pub judged-at :

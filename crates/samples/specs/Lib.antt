@@ -1,3 +1,3 @@
 pub mod Samples
 pub mod Faults
-pub mod Look
+pub mod HowJudged

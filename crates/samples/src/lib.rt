@@ -11,7 +11,7 @@ ghost use lib.ListN.{length, getD};
 ghost use Rattle.refusal.specs.Answers.{said, accepted};
 ghost use Rattle.samples.specs.Samples.{sampleCount, pixelSize, twoByTwo};
 ghost use Rattle.samples.specs.Faults.{fault, judged, verdict};
-ghost use Rattle.samples.specs.Look.{leastOf, allWithin, atFault, SoundTo};
+ghost use Rattle.samples.specs.HowJudged.{leastOf, allWithin, atFault, SoundTo};
 
 // The bytes of a pixel.
 pub fn pixel_size(wide: bool) -> usize

@@ -13,7 +13,7 @@ use Rattle.numbers.specs.Rounding.{nearest}
 use Rattle.transfer.specs.Search.{lastPassing}
 use Rattle.transfer.specs.Light.{scale}
 use Rattle.transfer.specs.Level.{lowLight, reachesLevel, beyondLevels, levelOfLight}
-use Rattle.transfer.specs.Tables.{levels, Threshold, ThresholdTable}
+use Rattle.transfer.specs.HowTabled.{levels, Threshold, ThresholdTable}
 use Rattle.transfer.proofs.Search.{Falls, last-from, last-below, last-rises}
 use Rattle.transfer.proofs.Every.{every, passes-at}
 

@@ -1,4 +1,4 @@
 pub mod Search
 pub mod Light
 pub mod Level
-pub mod Tables
+pub mod HowTabled

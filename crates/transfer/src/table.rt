@@ -1,6 +1,6 @@
 // The table of light by 12-bit level, in millionths. Every entry is proved to be the light that
 // specs/Light.antt defines. To have the numbers again, bisect its power test for each level.
-ghost use Rattle.transfer.specs.Tables.{LightTable};
+ghost use Rattle.transfer.specs.HowTabled.{LightTable};
 
 const LIGHTS: [u32; 2560] = [
     0,

@@ -3,7 +3,7 @@
 use native.Mathlib.Omega.{arith}
 use mathlib.Core.Path.{_∙_, ap, sym}
 use native.Mathlib.Nat.{le-add-right, lt-of-le-of-lt}
-use Rattle.esrgb.specs.Rules.{applied}
+use Rattle.esrgb.specs.HowApplied.{applied}
 use Rattle.esrgb.proofs.Rules.{affine-fits}
 use borrow.Author.Needs.{needs}
 use Rattle.esrgb.proofs.apply.Statement.{statement}

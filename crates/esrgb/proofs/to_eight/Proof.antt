@@ -4,7 +4,7 @@ use native.Mathlib.Omega.{arith}
 use mathlib.Core.Path.{_≡_}
 use Prim.Native.Nat.{_-_}
 use native.Mathlib.Nat.{zero-div}
-use Rattle.esrgb.specs.Rules.{applied}
+use Rattle.esrgb.specs.HowApplied.{applied}
 use borrow.Author.Needs.{needs}
 use Rattle.esrgb.proofs.to_eight.Statement.{statement}
 use Rattle.esrgb.proofs.to_eight.Tie as tie

@@ -50,7 +50,7 @@ use Rattle.records.specs.declared.FrameRecord.{FrameRecord}
 use Rattle.records.proofs.FrameRecord as T
 use Rattle.records.proofs.FrameRecord.Laws as T′
 use Rattle.placement.specs.declared.Progress.{Progress}
-use Rattle.placement.specs.Pass.{State, stateOf, walked, readied, laid}
+use Rattle.placement.specs.HowLaidOut.{State, stateOf, walked, readied, laid}
 use Rattle.layout.proofs.Relent.{Kept, lends-on, comes-home}
 use Rattle.placement.proofs.Laid.{LaidOut, start-state, is-laid}
 use Rattle.placement.proofs.Progress as P

@@ -54,7 +54,7 @@ use denote.Triple.Clauses.{ensured, lasts}
 use Rattle.records.specs.declared.FrameRecord.{FrameRecord}
 use Rattle.spool.specs.Find.{noRecord}
 use Rattle.placement.specs.declared.Progress.{Progress}
-use Rattle.placement.specs.Pass.{State, stateOf, visited, walked}
+use Rattle.placement.specs.HowLaidOut.{State, stateOf, visited, walked}
 use Rattle.records.proofs.FrameRecord as T
 use Rattle.records.proofs.FrameRecord.Laws as T′
 use Rattle.layout.proofs.Relent.{Kept, lends-on, comes-home}

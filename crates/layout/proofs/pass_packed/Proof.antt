@@ -7,7 +7,7 @@ use lib.ListN.{length}
 use denote.Ref.{now}
 use borrow.Author.Needs.{needs}
 use Rattle.records.specs.Layout.{ReadsRecord}
-use Rattle.placement.specs.Pass.{stateOf, visited}
+use Rattle.placement.specs.HowLaidOut.{stateOf, visited}
 use Rattle.layout.proofs.Packed.{Passing, passing-start, passing-more, passed}
 use Rattle.layout.proofs.pass_packed.Statement.{statement}
 use Rattle.layout.proofs.pass_packed.Tie as tie

@@ -6,7 +6,7 @@ use Prim.Native.Nat.{ℕ, _+_, _-_, _*_, _≤_}
 use native.Mathlib.Nat.{mul-comm, mul-sub, mul-le-mul, mul-le-mul-right}
 use native.Mathlib.Omega.{arith}
 use Rattle.numbers.specs.Rounding.{nearest}
-use Rattle.lumachroma.specs.Quotient.{Middle, clippedAt}
+use Rattle.lumachroma.specs.HowDivided.{Middle, clippedAt}
 use borrow.Author.Needs.{needs}
 use Rattle.lumachroma.proofs.add_chroma.Statement.{statement}
 use Rattle.lumachroma.proofs.add_chroma.Tie as tie

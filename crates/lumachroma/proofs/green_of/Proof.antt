@@ -2,7 +2,7 @@
 -- Assumes nothing.
 use native.Mathlib.Omega.{arith}
 use Rattle.numbers.specs.Rounding.{nearest}
-use Rattle.lumachroma.specs.Quotient.{clippedAt}
+use Rattle.lumachroma.specs.HowDivided.{clippedAt}
 use borrow.Author.Needs.{needs}
 use Rattle.lumachroma.proofs.green_of.Statement.{statement}
 use Rattle.lumachroma.proofs.green_of.Tie as tie

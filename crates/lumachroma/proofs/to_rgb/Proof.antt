@@ -3,7 +3,7 @@
 use mathlib.Core.Path.{ap, _∙_}
 use Prim.Native.Nat.{ℕ, _+_, _*_}
 use Rattle.lumachroma.specs.LumaChroma.{redBack, greenBack, blueBack}
-use Rattle.lumachroma.specs.Quotient.{clippedAt}
+use Rattle.lumachroma.specs.HowDivided.{clippedAt}
 use Rattle.lumachroma.proofs.Quotient.{clipped-at}
 use borrow.Author.Needs.{needs}
 use Rattle.lumachroma.proofs.to_rgb.Statement.{statement}

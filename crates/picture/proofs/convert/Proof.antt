@@ -3,7 +3,7 @@
 use mathlib.Core.Path.{sym, subst}
 use lib.ListN.{length}
 use denote.Ref.{now}
-use Rattle.picture.specs.Rules.{Offering}
+use Rattle.picture.specs.HowConverted.{Offering}
 use Rattle.picture.proofs.Cases.{says-9, bytes-left}
 use borrow.Author.Needs.{needs}
 use Rattle.picture.proofs.convert.Statement.{statement}

@@ -6,7 +6,7 @@ use Rattle.esrgb.specs.Depths.{bits}
 use Rattle.esrgb.specs.Codes.{fromSrgb, toSrgb, changeDepth}
 use Rattle.picture.specs.declared.Conversion.{Conversion}
 use Rattle.picture.specs.Convert.{converted}
-use Rattle.picture.specs.Rules.{Fit}
+use Rattle.picture.specs.HowConverted.{Fit}
 use Rattle.picture.proofs.Cases.{atDepths, at-depths}
 use Rattle.picture.proofs.Written.{room-samples, room-pixels, by-samples}
 use borrow.Author.Needs.{needs}

@@ -5,7 +5,7 @@ use mathlib.Core.Bool.{true}
 use mathlib.Core.List.{map}
 use denote.Ref.{now}
 use Rattle.samples.specs.Samples.{twoByTwo, bytesOf}
-use Rattle.esrgb.specs.Rules.{applied, ruleOf}
+use Rattle.esrgb.specs.HowApplied.{applied, ruleOf}
 use borrow.Author.Needs.{needs}
 use Rattle.picture.proofs.fill_change.Statement.{statement}
 use Rattle.picture.proofs.fill_change.Tie as tie

@@ -8,7 +8,7 @@ use denote.Ref.{now}
 use mathlib.Core.Bool.{true}
 use Rattle.samples.specs.Samples.{twoByTwo, read}
 use Rattle.samples.proofs.Reading.{length-two, length-pixels}
-use Rattle.picture.specs.Rules.{pixelApplied}
+use Rattle.picture.specs.HowConverted.{pixelApplied}
 use Rattle.picture.proofs.Filling.{Pixels, pixels-more, pixels-all}
 use borrow.Author.Needs.{needs}
 use Rattle.picture.proofs.fill_pixels.Statement.{statement}

@@ -7,7 +7,7 @@ use denote.Ref.{now}
 use borrow.Author.Needs.{needs}
 use Rattle.samples.specs.Samples.{place, samplesOf}
 use Rattle.samples.proofs.Reading.{length-samples}
-use Rattle.esrgb.specs.Rules.{applied}
+use Rattle.esrgb.specs.HowApplied.{applied}
 use Rattle.picture.proofs.Filling.{Samples, samples-none, samples-more, samples-all, place-within, count-within}
 use Rattle.picture.proofs.fill_samples.Statement.{statement}
 use Rattle.picture.proofs.fill_samples.Tie as tie

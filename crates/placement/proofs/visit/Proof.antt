@@ -4,7 +4,7 @@ use mathlib.Core.Path.{sym, ap, _∙_}
 use borrow.Author.Needs.{needs}
 use Rattle.records.specs.Faults.{checked}
 use Rattle.records.proofs.Sizes.{pixels-small}
-use Rattle.placement.specs.Pass.{grown}
+use Rattle.placement.specs.HowLaidOut.{grown}
 use Rattle.placement.proofs.Written.{visit-faulty, visit-sound, visit-refused, visit-refused-at}
 use Rattle.placement.proofs.visit.Statement.{statement}
 use Rattle.placement.proofs.visit.Tie as tie

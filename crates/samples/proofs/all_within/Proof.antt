@@ -9,7 +9,7 @@ use Rattle.samples.proofs.Reading.{length-two}
 use Rattle.samples.proofs.Judging.{within-at, one-more}
 use Rattle.numbers.proofs.Booleans.{and-right}
 use Rattle.samples.specs.Samples.{twoByTwo}
-use Rattle.samples.specs.Look.{allWithin}
+use Rattle.samples.specs.HowJudged.{allWithin}
 use Rattle.samples.proofs.all_within.Statement.{statement}
 use Rattle.samples.proofs.all_within.Tie as tie
 

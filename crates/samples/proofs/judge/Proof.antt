@@ -6,7 +6,7 @@ use borrow.Author.Tests.{not-true}
 use denote.Ref.{now}
 use Rattle.refusal.specs.Answers.{accepted}
 use Rattle.samples.specs.Samples.{twoByTwo}
-use Rattle.samples.specs.Look.{allWithin}
+use Rattle.samples.specs.HowJudged.{allWithin}
 use Rattle.samples.proofs.Judging.{within-sound, none-above, two-below}
 use borrow.Author.Needs.{needs}
 use Rattle.samples.proofs.judge.Statement.{statement}

@@ -8,7 +8,7 @@ use lib.ListN.{length}
 use denote.Ref.{now}
 use borrow.Author.Needs.{needs}
 use Rattle.samples.specs.Samples.{twoByTwo}
-use Rattle.samples.specs.Look.{atFault, SoundTo}
+use Rattle.samples.specs.HowJudged.{atFault, SoundTo}
 use Rattle.samples.proofs.Reading.{length-two}
 use Rattle.samples.proofs.Judging.{sound-none, sound-more}
 use Rattle.samples.proofs.sound_start.Statement.{statement}

@@ -1,6 +1,5 @@
-// The frames of a spool one after another: document 01's walker. It promises that each step gives
-// what finding the frame gives, and document 01's rule for the number of the next one; it asks
-// nothing of a caller.
+// The frames of a spool one after another (rule 7.7): document 01's walker. It promises that each step
+// gives what finding the frame gives, and the number of the frame to come; it asks nothing of a caller.
 use spool::Found;
 use spool::find;
 use spool::pixels;
@@ -14,7 +13,7 @@ pub struct Visit {
     pub next: usize,
 }
 
-// One step from a number: a file that does not open, and a number past its frames, are stayed at.
+// One step from a number. The number stays if the file does not open or has no such frame.
 fn visit_at(file: &[u8], number: usize) -> Visit
     ensures { λ r. ⌜ (findSaid (r .found) ≡ findSays (now (file .entry)) number) × (r .next ≡ nextNumber (now (file .entry)) number) ⌝ }
 {
@@ -39,8 +38,7 @@ fn visit_at(file: &[u8], number: usize) -> Visit
     }
 }
 
-// The frames of a spool, one after another: document 01's walker. It keeps the lent file and the
-// number of the next frame.
+// A walk over the frames of a spool: the file, and the number of the frame to come.
 pub struct Frames<'a> {
     pub file: &'a [u8],
     pub next: usize,

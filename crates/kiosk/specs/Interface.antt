@@ -22,8 +22,7 @@ answerOf (accepted n) = pos n
 answerOf (refused k) = minus k
 answerOf (refusedAt k at) = minus k
 
--- "12 and 13 give the byte offset of the sample, the other refusals their number only": where there is no place, what stood
--- there stays.
+-- The place that C's variable holds afterwards: if the answer has none, what it held before.
 abbrev pub placeOf : Said → ℕ → ℕ
 placeOf (accepted n) before = before
 placeOf (refused k) before = before
@@ -46,7 +45,7 @@ Countable (accepted n) = n < 2 ^ 63
 Countable (refused k) = Unit
 Countable (refusedAt k at) = Unit
 
--- "Accepted, the frame count, the shop and the table offset"; "refused, it gives the number only", and the two others stay.
+-- Rule 7.5: the frame count is returned, shop and offset of the table are written. Refused, both keep what they held.
 abbrev pub openAnswer : OpenSaid → ℤ
 openAnswer (opens count shop table) = pos count
 openAnswer (open-refused k) = minus k
@@ -59,8 +58,8 @@ abbrev pub openTable : OpenSaid → ℕ → ℕ
 openTable (opens count shop table) before = table
 openTable (open-refused k) before = before
 
--- "Accepted, the answer is the frame's own stretch of the lent file and its record": the length of the stretch, whose start
--- is the record's offset. "Refused, the stretch is empty, at the file's start, and the record is all zeros."
+-- Rule 7.6: the length of the frame's pixels is returned, which start at the record's offset, and the record is written. Refused, it is
+-- the record of zeros.
 abbrev pub findAnswer : FindSaid → ℤ
 findAnswer (finds r) = pos (pixelBytes r)
 findAnswer (find-refused k r) = minus k

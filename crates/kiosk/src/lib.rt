@@ -92,7 +92,7 @@ pub extern "C" fn kiosk_change_depth(
     converted(Conversion::ChangeDepth { from, to }, src, dst, place)
 }
 
-// E-sRGB to luma and chroma, document 01's sheet.
+// E-sRGB to luma and chroma.
 #[no_mangle]
 pub extern "C" fn kiosk_to_luma_chroma(
     depth: u32,

@@ -1,4 +1,4 @@
--- What the operations on buffers say and write (document 01, "Turned away").
+-- What the operations on buffers answer and write (rule 6.7).
 -- Assumes nothing.
 use Prim.Native.Nat.{ℕ, _*_, _/_, _%_}
 use mathlib.Core.Bool.{true, false}
@@ -13,23 +13,23 @@ use Rattle.esrgb.specs.Depths.{greatest}
 use Rattle.transfer.specs.Light.{offersLight, lightOfCode}
 use Rattle.transfer.specs.Level.{codeOfLight}
 
--- "Light answers as Convert does: code to light has 9 (only 10 and 12), 10, 11, 12 .. Lengths of light are counted in
--- numbers." The source is bytes, two to a sample, and the destination has room for so many numbers.
+-- Codes to light: 9, 10, 11, then the samples, in Convert's order. The source is bytes, two to a sample, and the destination has
+-- `room` numbers.
 unfoldable pub codesToLightSays : ℕ → List ℕ → ℕ → Said
 codesToLightSays n src room =
     inOrder (offersLight n) (eqb (length src % pixelSize true) 0) (eqb room (sampleCount true (length src)))
     (judged true false (greatest n) (accepted (length src / pixelSize true)) 0 (twoByTwo src))
 
--- What it writes where it accepts: the light of each sample.
+-- What it writes if it accepts: the light of each sample.
 abbrev pub codesToLight : ℕ → List ℕ → List ℤ
 codesToLight n src = map (lightOfCode n) (twoByTwo src)
 
--- "Light to code has 9, 10, 11 and clips every value." The source is numbers, three to a pixel, and the destination has
--- room for so many bytes.
+-- Light to codes: 9, 10, 11, and no number is at fault. The source is so many numbers, three to a pixel, and the destination has
+-- `room` bytes.
 unfoldable pub lightToCodesSays : ℕ → ℕ → ℕ → Said
 lightToCodesSays n numbers room =
     inOrder (offersLight n) (eqb (numbers % 3) 0) (eqb room (2 * numbers)) (accepted (numbers / 3))
 
--- What it writes where it accepts: the code of each light, two bytes each.
+-- What it writes if it accepts: the code of each light, two bytes each.
 abbrev pub lightToCodes : ℕ → List ℤ → List ℕ
 lightToCodes n src = bytesOf true (map (codeOfLight n) src)

@@ -1,6 +1,6 @@
-// Linear light in buffers, both ways, at 10 and 12 bits: e-sRGB codes to signed millionths of reference
-// white, and such numbers to codes. For every input it promises the answer and every number or byte of
-// the destination, by what `transfer` defines for one sample, and asks nothing of a caller.
+// Linear light in buffers, both ways, at 10 and 12 bits (rule 6.7): e-sRGB codes to signed millionths of
+// reference white, and such numbers to codes. For every input it promises the answer and every number or
+// byte of the destination, by what `transfer` defines for one sample, and asks nothing of a caller.
 use esrgb::Depth;
 use esrgb::greatest_of;
 use esrgb::step_of;
@@ -27,9 +27,9 @@ ghost use Rattle.transfer.specs.Level.{levelOfLight, codeOfLight};
 ghost use Rattle.transfer.specs.HowTabled.{levels, LightTable, ThresholdTable};
 ghost use Rattle.linear.specs.Operations.{codesToLightSays, codesToLight, lightToCodesSays, lightToCodes};
 
-// Codes to light: from two-byte samples, three to a pixel, to a number each. A depth other than 10
-// and 12, a part of a pixel, another room than a number a sample, and a code above the greatest are
-// refused, in this order.
+// Codes to light: each two-byte sample becomes a number. Refused are, in this order: a depth other than
+// 10 and 12, a source with a part of a pixel, a destination that does not have one number for each
+// sample, and a code above the greatest.
 pub fn code_to_light(depth: u32, src: &[u8], dst: &mut [i32]) -> Answer
     ensures answer { λ r. ⌜ said r ≡ codesToLightSays depth (now (src .entry)) (length (now (dst .entry))) ⌝ }
     ensures numbers { λ r. ⌜ now (dst .exit) ≡ leaves (codesToLightSays depth (now (src .entry)) (length (now (dst .entry)))) (codesToLight depth (now (src .entry))) (now (dst .entry)) ⌝ }
@@ -107,9 +107,9 @@ fn with_sign(negative: bool, magnitude: u32) -> i32
     if negative { -value } else { value }
 }
 
-// Light to codes: from three numbers a pixel to two bytes each. A depth other than 10 and 12, a part
-// of a pixel and another room than two bytes a number are refused, in this order. No number is: each
-// is clipped.
+// Light to codes: each number becomes two bytes. Refused are, in this order: a depth other than 10 and
+// 12, a source with a part of a pixel, and a destination that does not have two bytes for each number. No
+// number is refused: codes are clipped.
 pub fn light_to_code(depth: u32, src: &[i32], dst: &mut [u8]) -> Answer
     ensures answer { λ r. ⌜ said r ≡ lightToCodesSays depth (length (now (src .entry))) (length (now (dst .entry))) ⌝ }
     ensures bytes { λ r. ⌜ now (dst .exit) ≡ leaves (lightToCodesSays depth (length (now (src .entry))) (length (now (dst .entry)))) (lightToCodes depth (now (src .entry))) (now (dst .entry)) ⌝ }
@@ -200,8 +200,8 @@ fn level_of(thresholds: &[u32], depth: Depth, light: u32) -> usize
     level
 }
 
-// All of some levels if the light reaches the threshold, else none; without a branch, since nobody
-// can foretell which.
+// All of some levels if the light reaches the threshold, else none. There is no branch, because the
+// processor could not predict it.
 fn passed(count: usize, threshold: u32, light: u32) -> usize
     ensures { λ r. ⌜ r ≡ cond (leb threshold light) count 0 ⌝ }
 {

@@ -1,4 +1,4 @@
--- Text in bytes: numbers in decimal, and text written into a buffer.
+-- Text in bytes: numbers in decimal (rule 9.4), and text written into a buffer.
 -- Assumes nothing.
 use Prim.Native.Nat.{ℕ, zero, suc, _+_, _/_, _%_}
 use mathlib.Core.Bool.{cond}

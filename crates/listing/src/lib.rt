@@ -1,5 +1,5 @@
-// The listing of a spool as text, written into a lent buffer. It promises every byte of document
-// 01's listing for any file; it asks nothing of a caller. A buffer that is too small gets as much of
+// The listing of a spool as text (rules, section 9), written into a lent buffer. It promises every byte
+// of the listing for any file; it asks nothing of a caller. A buffer that is too small gets as much of
 // the text as it has room for.
 use frames::step_from;
 use records::FrameRecord;
@@ -23,7 +23,7 @@ pub const INPUT_LIMIT: usize = 65536;
 
 pub const LISTING_ROOM: usize = 16384;
 
-// One byte more, where the buffer has room.
+// Adds one byte, if the buffer has room.
 fn put_byte(out: &mut [u8], at: usize, byte: u8) -> usize
     ensures { λ r. ⌜ record { bytes = now (out .exit); at = r } ≡ put (record { bytes = now (out .entry); at = at }) byte ⌝ }
 {
@@ -34,7 +34,7 @@ fn put_byte(out: &mut [u8], at: usize, byte: u8) -> usize
     at
 }
 
-// A text more.
+// Adds a text.
 fn put_text(out: &mut [u8], at: usize, text: &[u8]) -> usize
     ensures { λ r. ⌜ record { bytes = now (out .exit); at = r } ≡ written (record { bytes = now (out .entry); at = at }) (now (text .entry)) ⌝ }
 {
@@ -47,7 +47,7 @@ fn put_text(out: &mut [u8], at: usize, text: &[u8]) -> usize
     next
 }
 
-// A number more, in decimal.
+// Adds a number in decimal.
 fn put_number(out: &mut [u8], at: usize, n: usize) -> usize
     ensures { λ r. ⌜ record { bytes = now (out .exit); at = r } ≡ written (record { bytes = now (out .entry); at = at }) (decimal n) ⌝ }
 {

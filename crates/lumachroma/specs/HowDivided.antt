@@ -1,4 +1,4 @@
--- The signed quotient (up − down) ÷ den of a chroma, and the clipped one of a channel, as the code computes them.
+-- How the code divides: the signed quotient (up − down) / den of a chroma, and the clipped one of a channel.
 -- Assumes nothing.
 use Prim.Native.Nat.{ℕ, _+_, _-_, _*_, _/_, _%_, _≤_, _<_, min}
 use mathlib.Core.Path.{_≡_}

@@ -1,5 +1,5 @@
--- Luma and chroma of a pixel of e-sRGB codes, and the way back: document 01's sheet, with BT.601-5's luma weights.
--- A signed quotient is written with a part that counts up and one that counts down, since a difference of ℕ stops at 0.
+-- Luma and chroma of a pixel of e-sRGB codes, and the way back (rules, section 2; BT.601-5's luma weights): document 01's sheet.
+-- A signed quotient has a part that counts up and one that counts down, since a difference of ℕ stops at 0.
 -- Assumes nothing.
 use Prim.Native.Nat.{ℕ, _+_, _-_, _*_, min}
 use Rattle.numbers.specs.Rounding.{nearest, nearestDown}
@@ -7,35 +7,34 @@ use Rattle.esrgb.specs.Depths.{greatest, middle}
 use Rattle.lumachroma.specs.declared.Rgb.{Rgb}
 use Rattle.lumachroma.specs.declared.LumaChroma.{LumaChroma}
 
--- "luma = (299r + 587g + 114b) ÷ 1,000, to the nearest, ties upward"
+-- Rule 2.2.
 unfoldable pub luma : ℕ → ℕ → ℕ → ℕ
 luma r g b = nearest (299 * r + 587 * g + 114 * b) 1000
 
--- (up − down) ÷ den, "to the nearest, ties towards zero; each is stored plus 2^(n−1)". One of the two differences is 0.
+-- (up − down) / den, nearest, ties towards zero, with the middle code added (rules 2.3 and 2.4). One of the two differences is 0.
 unfoldable pub chroma : ℕ → ℕ → ℕ → ℕ → ℕ
 chroma n up down den = middle n + nearestDown (up - down) den - nearestDown (down - up) den
 
--- "cb = (−299r − 587g + 886b) ÷ 1,772 .. from the codes and not from rounded luma"
+-- Rule 2.3, from the codes themselves.
 unfoldable pub blueChroma : ℕ → ℕ → ℕ → ℕ → ℕ
 blueChroma n r g b = chroma n (886 * b) (299 * r + 587 * g) 1772
 
--- "cr = (701r − 587g − 114b) ÷ 1,402"
 unfoldable pub redChroma : ℕ → ℕ → ℕ → ℕ → ℕ
 redChroma n r g b = chroma n (701 * r) (587 * g + 114 * b) 1402
 
--- (up − down) ÷ den, "rounded once, to the nearest, ties upward, then clipped to 0 to 2^n − 1"
+-- (up − down) / den, nearest, ties upward, clipped to the codes of depth n (rule 2.5).
 unfoldable pub clipped : ℕ → ℕ → ℕ → ℕ → ℕ
 clipped n up down den = min (greatest n) (nearest (up - down) den)
 
--- "r = y + 1,402 × cr ÷ 1,000", where the stored cr is 2^(n−1) more
+-- Rule 2.5, red; the stored chroma has the middle code in it, which counts down here.
 unfoldable pub redBack : ℕ → ℕ → ℕ → ℕ → ℕ
 redBack n y cb cr = clipped n (1000 * y + 1402 * cr) (1402 * middle n) 1000
 
--- "g = y − (202,008 × cb + 419,198 × cr) ÷ 587,000"
+-- Rule 2.5, green.
 unfoldable pub greenBack : ℕ → ℕ → ℕ → ℕ → ℕ
 greenBack n y cb cr = clipped n (587000 * y + (202008 + 419198) * middle n) (202008 * cb + 419198 * cr) 587000
 
--- "b = y + 1,772 × cb ÷ 1,000"
+-- Rule 2.5, blue.
 unfoldable pub blueBack : ℕ → ℕ → ℕ → ℕ → ℕ
 blueBack n y cb cr = clipped n (1000 * y + 1772 * cb) (1772 * middle n) 1000
 

@@ -1,4 +1,4 @@
--- Codes that differ by one at most: what a channel keeps on its way through luma and chroma (document 01, demand 3).
+-- Codes that differ by one at most: what a channel keeps on its way through luma and chroma (rule 5.1).
 -- Assumes nothing.
 use Prim.Native.Nat.{ℕ, _+_, _≤_}
 

@@ -1,6 +1,6 @@
-// Luma and chroma of one pixel, and the way back: document 01's sheet, with BT.601-5's luma weights.
-// It promises that every pixel of 16-bit samples gets the three numbers that the definitions of
-// specs/ give at its depth, so that it asks nothing of a caller.
+// Luma and chroma of one pixel, and the way back (rules, section 2), with BT.601-5's luma weights. It
+// promises the three numbers of the definitions for every pixel of 16-bit samples, so that it asks
+// nothing of a caller.
 use esrgb::Depth;
 use esrgb::step_of;
 ghost use mathlib.Core.Path.{_≡_};

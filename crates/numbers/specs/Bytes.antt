@@ -1,4 +1,4 @@
--- Numbers as bytes: "little-endian and unsigned", "the low byte first".
+-- Numbers as bytes, unsigned and little-endian (rules 3.1 and 7.1).
 -- Assumes nothing.
 use Prim.Native.Nat.{ℕ, zero, suc, _+_, _*_, _/_, _%_}
 use mathlib.Core.List.{List, [], _∷_}

@@ -1,11 +1,11 @@
--- Rounding a quotient of whole numbers. Document 01 names two ways to break a tie.
+-- Rounding a quotient of whole numbers. The rules break ties in two ways.
 -- Assumes nothing.
 use Prim.Native.Nat.{ℕ, _+_, _-_, _*_, _/_}
 
--- num ÷ den to the nearest whole number, ties upward.
+-- num / den to the nearest whole number, ties upward (rules 1.7, 2.2 and 2.5; of a size, 6.4).
 unfoldable pub nearest : ℕ → ℕ → ℕ
 nearest num den = (2 * num + den) / (2 * den)
 
--- num ÷ den to the nearest whole number, ties downward: of a magnitude, that is towards zero.
+-- num / den to the nearest whole number, ties downward: of a size, that is towards zero (rule 2.3).
 unfoldable pub nearestDown : ℕ → ℕ → ℕ
 nearestDown num den = (2 * num + den - 1) / (2 * den)

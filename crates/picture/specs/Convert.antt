@@ -1,4 +1,4 @@
--- Convert: what it answers, and every byte that it leaves in the destination, for any source and any destination.
+-- Convert (rules, section 4): what it answers, and every byte that it leaves in the destination, for any source and any destination.
 -- Assumes nothing.
 use Prim.Native.Nat.{ℕ, _*_, _%_}
 use mathlib.Core.List.{List, map}
@@ -14,7 +14,7 @@ use Rattle.picture.specs.declared.Conversion.{Conversion}
 use Rattle.picture.specs.declared.Conversion.the-variants.{FromSrgb, ToSrgb, ChangeDepth, ToLumaChroma, FromLumaChroma}
 use Rattle.picture.specs.Forms.{bitsOf, hasChroma, wideForm, pixelsIn, source, target, offers}
 
--- What a conversion does to one pixel.
+-- What a conversion does to one pixel (rule 4.1).
 abbrev pub each : (ℕ → ℕ) → Pixel → Pixel
 each f p = (f (p .0), f (p .1), f (p .2))
 
@@ -38,22 +38,22 @@ pixelCount c src = pixelsIn (source c) src
 abbrev pub needed : Conversion → List ℕ → ℕ
 needed c src = pixelSize (wideForm (target c)) * pixelCount c src
 
--- What the samples of a source say, where its lengths are right. "Accepted, it gives the pixel count."
+-- Rule 4.3, and the pixel count (rule 4.5) if no sample is at fault.
 abbrev pub sourceSays : Conversion → List ℕ → Said
 sourceSays c src =
     judged (wideForm (source c)) (hasChroma (source c)) (greatest (bitsOf (source c))) (accepted (pixelCount c src)) 0
     (samplesOf (wideForm (source c)) src)
 
--- The answer to a source and a destination of `room` bytes.
+-- Rule 4.2: the answer to a source and a destination of `room` bytes.
 unfoldable pub convertSays : Conversion → List ℕ → ℕ → Said
 convertSays c src room =
     inOrder (offers c) (eqb (length src % pixelSize (wideForm (source c))) 0) (eqb room (needed c src))
     (sourceSays c src)
 
--- The source's pixels, converted one by one.
+-- Rule 4.5: the source's pixels, converted one by one.
 unfoldable pub converted : Conversion → List ℕ → List ℕ
 converted c src = write (wideForm (target c)) (map (pixelOf c) (read (wideForm (source c)) src))
 
--- The destination as Convert leaves it: "Refused, the destination is unchanged."
+-- The destination afterwards (rules 4.4 and 4.5).
 unfoldable pub convertBytes : Conversion → List ℕ → List ℕ → List ℕ
 convertBytes c src dst = leaves (convertSays c src (length dst)) (converted c src) dst

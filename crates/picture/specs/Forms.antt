@@ -1,4 +1,4 @@
--- What a pixel buffer holds, and what each conversion reads and writes.
+-- What a pixel buffer holds, and what each conversion reads and writes (rule 4.1).
 -- Assumes nothing.
 use Prim.Native.Nat.{ℕ, _/_}
 use mathlib.Core.Bool.{Bool, true, false, _&&_}
@@ -9,7 +9,7 @@ use Rattle.esrgb.specs.Depths.{offered}
 use Rattle.picture.specs.declared.Conversion.{Conversion}
 use Rattle.picture.specs.declared.Conversion.the-variants.{FromSrgb, ToSrgb, ChangeDepth, ToLumaChroma, FromLumaChroma}
 
--- 8-bit sRGB, e-sRGB of a depth, or document 01's sheet of a depth.
+-- 8-bit sRGB, e-sRGB of a depth, or luma and chroma of a depth.
 pub data Form : Type 0 where
   srgb : Form
   esrgb : ℕ → Form
@@ -25,13 +25,13 @@ hasChroma srgb = false
 hasChroma (esrgb n) = false
 hasChroma (lumaChroma n) = true
 
--- "A sample is one byte at 8 bits, else two": of the forms, sRGB alone has 8 bits.
+-- Rule 3.1: of the forms, sRGB alone has 8 bits.
 abbrev pub wideForm : Form → Bool
 wideForm srgb = false
 wideForm (esrgb n) = true
 wideForm (lumaChroma n) = true
 
--- How many pixels a buffer of a form has.
+-- How many pixels a buffer of a form holds.
 abbrev pub pixelsIn : Form → List ℕ → ℕ
 pixelsIn form bytes = length bytes / pixelSize (wideForm form)
 
@@ -49,7 +49,7 @@ target (ChangeDepth n m) = esrgb m
 target (ToLumaChroma n) = lumaChroma n
 target (FromLumaChroma n) = esrgb n
 
--- "9 a depth not offered (by either side)"
+-- Rule 4.2, 9: every depth named must be offered.
 abbrev pub offersForm : Form → Bool
 offersForm srgb = true
 offersForm (esrgb n) = offered n

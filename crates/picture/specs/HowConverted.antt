@@ -1,4 +1,4 @@
--- What the code holds once it has looked at a conversion's depths, and what its pixel loop does.
+-- How the code converts: what it holds once it has looked at a conversion's depths, and what its pixel loop does.
 -- Assumes nothing.
 use Prim.Native.Nat.{ℕ, _%_}
 use mathlib.Core.Path.{_≡_}
@@ -42,7 +42,7 @@ abbrev pub Offering : Conversion → Offers → Type 0
 Offering c (Depths from to) = Named c from to
 Offering c NotOffered = offers c ≡ false
 
--- Lengths that are right: whole pixels, and exactly the room that they need.
+-- Lengths that neither 10 nor 11 refuses.
 pub record Fit (c : Conversion) (src dst : List ℕ) : Type 0 where
   pub whole : length src % pixelSize (wideForm (source c)) ≡ 0
   pub room : length dst ≡ needed c src

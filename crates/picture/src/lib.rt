@@ -1,6 +1,6 @@
-// Convert: pictures in byte buffers, from one form to another. It promises, for any buffers and any
-// depths, the answer and every byte that document 01 fixes: a refused call changes nothing, and an
-// accepted one leaves the source's pixels, converted one by one.
+// Convert: pictures in byte buffers, from one form to another (rules, section 4). It promises the answer
+// and every byte for any buffers and any depths: a refused call changes nothing, and an accepted one
+// leaves the source's pixels, converted one by one.
 use esrgb::Depth;
 use esrgb::DepthChange;
 use esrgb::Offer;
@@ -24,12 +24,11 @@ ghost use Rattle.picture.specs.Forms.{hasChroma, wideForm, source, targe
 ghost use Rattle.picture.specs.Convert.{sourceSays, convertSays, converted, convertBytes};
 ghost use Rattle.picture.specs.HowConverted.{fromDepth, toDepth, Named, Offering, Fit, pixelIn, pixelApplied};
 
-// The conversions of document 01. A depth is any number; 10, 12 and 16 are offered.
+// The conversions of rule 4.1. A depth may be any number; rule 1.1 says which are offered.
 pub enum Conversion {
     FromSrgb { depth: u32 },
     ToSrgb { depth: u32 },
     ChangeDepth { from: u32, to: u32 },
-    // Document 01's sheet, there and back.
     ToLumaChroma { depth: u32 },
     FromLumaChroma { depth: u32 },
 }

@@ -1,5 +1,5 @@
--- How the code lays out: a pass over the records that checks them, the header, and a pass that writes them. No notion of
--- document 01: the proofs show that this is `LayOut`.
+-- How the code lays out: a pass over the records that checks them, the header, and a pass that writes them. The proofs show that this
+-- comes to what `LayOut` says.
 -- Assumes nothing.
 use Prim.Native.Nat.{ℕ, _+_, _*_}
 use mathlib.Core.Bool.{Bool, true, false, cond}

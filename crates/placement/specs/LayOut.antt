@@ -1,4 +1,4 @@
--- Lay out a spool (document 01, "Turned away").
+-- Lay out a spool (rule 7.8).
 -- Assumes nothing.
 use Prim.Native.Nat.{ℕ, _+_, _*_}
 use mathlib.Core.Bool.{cond}
@@ -11,11 +11,11 @@ use Rattle.records.specs.declared.Header.{Header}
 use Rattle.records.specs.Layout.{headerSize, recordSize, headerBytes, recordBytes}
 use Rattle.records.specs.Faults.{frameLimit, pixelBytes, recordFault}
 
--- "14 total length above 4,294,967,295": the greatest length that a header can say.
+-- 14: the greatest length that a header can say.
 abbrev pub lengthLimit : ℕ
 lengthLimit = 4294967295
 
--- "Table at 12", and "pixels .. from the table's end".
+-- The table stands right behind the header, and the pixels right behind the table.
 abbrev pub pixelsFrom : ℕ → ℕ
 pixelsFrom count = headerSize + recordSize * count
 
@@ -26,14 +26,13 @@ allPixels (r ∷ rs) = pixelBytes r + allPixels rs
 abbrev pub totalLength : List FrameRecord → ℕ
 totalLength rs = pixelsFrom (length rs) + allPixels rs
 
--- "Then 6 and 7 record by record, the first record at fault, with its place in the list": of records the first of which
--- has the given place. Where none is at fault, `sound` is said.
+-- 6 and 7, of records the first of which has the given place: the first one at fault decides, and `sound` is said if there is none.
 unfoldable pub judged : Said → ℕ → List FrameRecord → Said
 judged sound place [] = sound
 judged sound place (r ∷ rs) =
     cond (eqb (recordFault r) 0) (judged sound (place + 1) rs) (refusedAt (recordFault r) place)
 
--- "3; then 6 and 7 ..; 14 total length above 4,294,967,295; 11. .. Accepted, it gives the total length."
+-- The answer, for a destination of `room` bytes: 3, the records, 14, 11, or the total length.
 unfoldable pub layoutSays : List FrameRecord → ℕ → Said
 layoutSays rs room =
     cond (ltb frameLimit (length rs)) (refused 3)
@@ -42,7 +41,7 @@ layoutSays rs room =
     (cond (eqb room (totalLength rs)) (accepted (totalLength rs)) (refused 11)))
     0 rs)
 
--- "Pixels of the frames placed one after another": the records with their pixel offsets, the first at the given one.
+-- The records with their new offsets, the first at the given one: pixels follow each other.
 abbrev pub withOffset : ℕ → FrameRecord → FrameRecord
 withOffset at r =
     record { offset = at; width = r .width; height = r .height; kind = r .kind; bits = r .bits; copies = r .copies; order = r .order }
@@ -55,11 +54,11 @@ abbrev pub tableBytes : List FrameRecord → List ℕ
 tableBytes [] = []
 tableBytes (r ∷ rs) = recordBytes r ++ tableBytes rs
 
--- The header of a spool with so many frames, of this shop and total length: "table at 12".
+-- The header of a spool with so many frames, of this shop and total length.
 abbrev pub headerOf : ℕ → ℕ → ℕ → Header
 headerOf count shop total = record { count = count; shop = shop; table = headerSize; length = total }
 
--- "It writes header (table at 12) and table, .. and leaves the pixel bytes as found."
+-- What the destination holds if it accepts: header, table, and behind them what was found there.
 unfoldable pub layoutBytes : List FrameRecord → ℕ → List ℕ → List ℕ
 layoutBytes rs shop found =
     headerBytes (headerOf (length rs) shop (totalLength rs))

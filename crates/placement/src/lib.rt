@@ -1,6 +1,6 @@
-// Laying out a spool, one step at a time: where its header, records and pixels are placed, and what
-// refuses them. It promises that the steps, taken over any records by whoever keeps them, leave
-// document 01's answer and every byte of the destination; it asks nothing of a caller.
+// Laying out a spool, one step at a time (rule 7.8): where its header, records and pixels are placed, and
+// what refuses them. It promises that the steps, taken over any records by whoever keeps them, leave the
+// rule's answer and every byte of the destination; it asks nothing of a caller.
 use bytes::copy;
 use records::Checked;
 use records::FRAME_LIMIT;
@@ -130,8 +130,8 @@ fn stop(answer: Answer) -> Progress
     }
 }
 
-// Between the pass that checks and the pass that writes: the refusals in document 01's order, and
-// the header.
+// Between the pass that checks and the pass that writes: the refusals in the rule's order, and the
+// header.
 pub fn ready(checked: Progress, count: usize, shop: u16, dst: &mut [u8]) -> Progress
     ensures { λ r. ⌜ stateOf r (now (dst .exit)) ≡ readied count shop (stateOf checked (now (dst .entry))) ⌝ }
 {

@@ -1,4 +1,4 @@
--- What the records of a spool may say (document 01, "The spool file", and its refusals 3, 6 and 7).
+-- What the records of a spool may say (rules 7.3 and 7.4), and how many there may be.
 -- Assumes nothing.
 use Prim.Native.Nat.{ℕ, _*_}
 use mathlib.Core.Bool.{Bool, false, cond, _||_}
@@ -10,19 +10,19 @@ use Rattle.records.specs.declared.FrameRecord.{FrameRecord}
 use Rattle.records.specs.declared.Checked.{Checked}
 use Rattle.records.specs.declared.Checked.the-variants.{Sound, Faulty}
 
--- "3 count above 255 (0 is allowed)": the most frames that a spool has.
+-- Rules 7.5 and 7.8, 3: the most frames that a spool has.
 abbrev pub frameLimit : ℕ
 frameLimit = 255
 
--- "Kind 1 is sRGB and has 8 bits; kinds 2 (e-sRGB) and 3 (sheet) have 10, 12 or 16."
+-- Rule 7.3: kinds, with their bits.
 abbrev pub isPair : ℕ → ℕ → Bool
 isPair kind bits = cond (eqb kind 1) (eqb bits 8) (cond (eqb kind 2 || eqb kind 3) (offered bits) false)
 
--- "7 width or height 0 or above 8,192": a width or height that no frame has.
+-- Rule 7.4: a width or height that no frame has.
 abbrev pub badSide : ℕ → Bool
 badSide side = eqb side 0 || ltb 8192 side
 
--- The refusal of a record, 0 for none: "6 kind and bits not a pair above; 7 width or height 0 or above 8,192".
+-- The refusal of a record by itself, 6 before 7; 0 stands for none.
 unfoldable pub recordFault : FrameRecord → ℕ
 recordFault r = cond (isPair (r .kind) (r .bits)) (cond (badSide (r .width) || badSide (r .height)) 7 0) 6
 
@@ -30,6 +30,6 @@ abbrev pub checked : Checked → ℕ
 checked Sound = 0
 checked (Faulty r) = numberOf r
 
--- "Pixels follow row by row, three samples each": the bytes of a frame's pixels.
+-- Rule 7.4: the bytes of a frame's pixels.
 abbrev pub pixelBytes : FrameRecord → ℕ
 pixelBytes r = r .width * r .height * pixelSize (isWide (r .bits))

@@ -1,4 +1,4 @@
--- Numbers of given widths in bytes, one after another.
+-- Numbers of given widths in bytes, one after another (rule 7.1).
 -- Assumes nothing.
 use Prim.Native.Nat.{ℕ, _+_}
 use mathlib.Core.List.{List, [], _∷_, _++_}

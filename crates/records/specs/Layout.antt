@@ -1,4 +1,4 @@
--- How the header and the records of a spool file are laid out (document 01, "The spool file").
+-- How the header and the records of a spool file are laid out (rule 7.2).
 -- Assumes nothing.
 use Prim.Native.Nat.{ℕ, _+_, _≤_, _<_}
 use mathlib.Core.List.{List, [], _∷_}
@@ -12,11 +12,11 @@ use Rattle.records.specs.declared.RecordRead.{RecordRead}
 use Rattle.records.specs.declared.RecordRead.the-variants.{Record, Short}
 use Rattle.records.specs.Fields.{sizeOf, numbersIn, bytesOf}
 
--- "Header, 12 bytes: frame count (2), shop (2, any), offset of the record table (4), file length (4)."
+-- The header: frame count, shop, offset of the table, length of the file.
 abbrev pub headerWidths : List ℕ
 headerWidths = 2 ∷ 2 ∷ 4 ∷ 4 ∷ []
 
--- "Record, 16 bytes: pixel offset (4), width (2), height (2), kind (1), bits (1), copies (2, any), order (4, any)."
+-- A record: offset of the pixels, width, height, kind, bits, copies, order.
 abbrev pub recordWidths : List ℕ
 recordWidths = 4 ∷ 2 ∷ 2 ∷ 1 ∷ 1 ∷ 2 ∷ 4 ∷ []
 
@@ -54,7 +54,7 @@ headerIn bytes = headerFrom (numbersIn headerWidths bytes)
 unfoldable pub recordIn : List ℕ → FrameRecord
 recordIn bytes = recordFrom (numbersIn recordWidths bytes)
 
--- What reading a header gives, and reading a record at a place: it, or none where its bytes are not all there.
+-- What reading a header gives, and reading a record at a place: nothing if some of its bytes are missing.
 abbrev pub ReadsHeader : List ℕ → HeaderRead → Type 0
 ReadsHeader bytes (header.Header h) = (headerSize ≤ length bytes) × (h ≡ headerIn bytes)
 ReadsHeader bytes header.Short = length bytes < headerSize

@@ -1,6 +1,6 @@
 // The header and the records of a spool file: their numbers, read from bytes and written as bytes,
-// and what a record may say. It promises every number and every byte as document 01 lays them out,
-// and document 01's refusals of a record; it asks nothing of a caller.
+// and what a record may say. It promises every number and every byte of rule 7.2's layout, and the
+// refusals of a record by rules 7.3 and 7.4; it asks nothing of a caller.
 use esrgb::Offer;
 use numbers::four_bytes;
 use numbers::from_four;

@@ -1,4 +1,4 @@
--- What an answer says, in document 01's numbers, and what it leaves in the destination.
+-- What an answer says, in the numbers of the rules, and what it leaves in the destination (rules 4.4 and 4.5).
 -- Assumes nothing.
 use Prim.Native.Nat.{ℕ}
 use mathlib.Core.List.{List}
@@ -17,7 +17,7 @@ said (Done n) = accepted n
 said (Refused r) = refused (numberOf r)
 said (RefusedAt r at) = refusedAt (numberOf r) at
 
--- "Refused, the destination is unchanged": the new content where the operation accepts, else the old.
+-- What the destination holds afterwards: what the operation writes if it accepts, and what was there if it refuses.
 abbrev pub leaves : {A : Type 0} → Said → List A → List A → List A
 leaves (accepted n) new old = new
 leaves (refused k) new old = old

@@ -1,4 +1,4 @@
--- The numbers of document 01's refusals ("Turned away, by operation").
+-- The number of each refusal (rules, section 8).
 -- Assumes nothing.
 use Prim.Native.Nat.{ℕ}
 use Rattle.refusal.specs.declared.Refusal.{Refusal}

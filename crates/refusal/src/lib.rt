@@ -1,10 +1,10 @@
-// Refusals and answers: every refusal of document 01 under a name, its number, and the three shapes
-// that the answer of an operation on buffers has. It promises that a refusal's number is the one
-// that document 01 gives it.
+// Refusals and answers: each refusal under a name, its number, and the three shapes that the answer
+// of an operation on buffers has. It promises that a refusal has the number of section 8 of the
+// rules.
 ghost use mathlib.Core.Path.{_≡_};
 ghost use Rattle.refusal.specs.Refusals.{numberOf};
 
-// Why an operation refuses, in the order of document 01's numbers.
+// Why an operation refuses, in the order of the numbers: document 01's "turned away".
 pub enum Refusal {
     // 1: a spool shorter than its header.
     TooShort,
@@ -38,7 +38,7 @@ pub enum Refusal {
     InputTooLong,
 }
 
-// The number that document 01 gives a refusal.
+// The number of a refusal.
 pub fn number(refusal: Refusal) -> u8
     ensures { λ r. ⌜ r ≡ numberOf refusal ⌝ }
 {

@@ -128,7 +128,7 @@ module _ {n : ℕ} (o : offered n ≡ true) {src before after : List ℕ} {answe
   pub from-ycc : Sound (lumaChroma n) src → Call (FromLumaChroma n) src before after answer → Went (FromLumaChroma n) src after answer
   from-ycc s = goes o o s (λ j h. back-codes n (scale-of n o) _)
 
--- "Code 0 is never written for chroma": so luma and chroma can be read.
+-- No stored chroma is 0 (rule 2.4), so luma and chroma can be read back.
 pub ycc-sound :
     {n : ℕ} {src after : List ℕ} {answer : Said} → offered n ≡ true → Picture (esrgb n) src → Went (ToLumaChroma n) src after answer
     → Sound (lumaChroma n) after

@@ -1,5 +1,5 @@
--- Demand 3: the picture itself (document 01's wall run) and its round trip through luma and chroma (the counter run) agree, for every
--- picture and the whole chain of calls.
+-- Demand 3 (rules, section 5): the picture itself, document 01's wall run, and its round trip through luma and chroma, the counter
+-- run, agree, for every picture and the whole chain of calls.
 -- Assumes nothing.
 use Prim.Native.Nat.{ℕ, _+_, _≤_, _<_}
 use mathlib.Core.Path.{_≡_}
@@ -16,14 +16,12 @@ use Rattle.picture.specs.Forms.{srgb, esrgb, lumaChroma, pixelsIn}
 use Rattle.roundtrip.specs.Pictures.{Channel, channel, pixelAt, Picture}
 use Rattle.roundtrip.specs.Calls.{Call}
 
--- One pixel of codes e, its luma and chroma s, and what comes back, b: every channel within one; a grey comes back exactly,
--- and both its chromas are the middle code.
+-- Rule 5.1, of a pixel of codes e, its luma and chroma s, and what comes back, b.
 pub record Kept (n : ℕ) (e s b : Pixel) : Type 0 where
   pub near : (k : Channel) → Near (channel k e) (channel k b)
   pub grey : e .0 ≡ e .1 → e .1 ≡ e .2 → (b ≡ e) × (s .1 ≡ middle n) × (s .2 ≡ middle n)
 
--- The round trip of a picture of codes, with the answers of its two calls: "none of these calls refuses, and each gives the
--- picture's pixel count".
+-- Rule 5.1, of a whole picture of codes and the answers of the two calls.
 pub record RoundTrip (n : ℕ) (codes ycc back : List ℕ) (there-says back-says : Said) : Type 0 where
   pub there : there-says ≡ accepted (pixelsIn (esrgb n) codes)
   pub again : back-says ≡ accepted (pixelsIn (esrgb n) codes)
@@ -32,15 +30,14 @@ pub record RoundTrip (n : ℕ) (codes ycc back : List ℕ) (there-says back-says
       (j : ℕ) → j < pixelsIn (esrgb n) codes
       → Kept n (pixelAt (esrgb n) codes j) (pixelAt (lumaChroma n) ycc j) (pixelAt (esrgb n) back j)
 
--- At 10 bits: an sRGB channel a, its code e, the code b that the round trip brings back, and b brought to 8 bits, x: it is
--- a or one greater, never less, and one greater exactly where b is one above e and a is below 255.
+-- Rule 5.2 at 10 bits, of an 8-bit channel a, its code e, the code b that comes back, and b brought to 8 bits, x.
 pub record OneGreater (a e b x : ℕ) : Type 0 where
   pub least : a ≤ x
   pub most : x ≤ a + 1
   pub greater : x ≡ a + 1 ↔ ((b ≡ e + 1) × (a < 255))
 
--- Both runs of an sRGB picture brought back to 8 bits, with the answers of those calls and of the first. The picture of codes
--- has as many pixels, so that the round trip's answers give the sRGB picture's count too.
+-- Rule 5.2, of an sRGB picture: both pictures of codes brought back to 8 bits, the answers of those calls and of the first. That the
+-- picture of codes has as many pixels makes the round trip's answers the sRGB picture's count too.
 pub record BackToEight (n : ℕ) (picture codes back codes₈ back₈ : List ℕ) (made-says codes-says back-says : Said) : Type 0 where
   pub count : pixelsIn (esrgb n) codes ≡ pixelsIn srgb picture
   pub made : made-says ≡ accepted (pixelsIn srgb picture)
@@ -54,7 +51,7 @@ pub record BackToEight (n : ℕ) (picture codes back codes₈ back₈ : List ℕ
       → OneGreater (channel k (pixelAt srgb picture j)) (channel k (pixelAt (esrgb n) codes j)) (channel k (pixelAt (esrgb n) back j))
       (channel k (pixelAt srgb back₈ j))
 
--- Demand 3, of every e-sRGB picture and of every sRGB picture, at one depth n, in destinations that held anything before
+-- Rule 5.3, demand 3: of every e-sRGB picture and of every sRGB picture, at one depth n, in destinations that held anything before
 -- (b₀ to b₄).
 pub record Demand3 : Type 0 where
   pub of-codes :

@@ -1,4 +1,4 @@
--- Calls of Convert, each of which gets the buffers as the earlier calls left them.
+-- Calls of Convert, each on buffers as the calls before left them.
 -- Assumes nothing.
 use Prim.Native.Nat.{ℕ}
 use mathlib.Core.Path.{_≡_}
@@ -8,12 +8,12 @@ use Rattle.refusal.specs.Answers.{Said}
 use Rattle.picture.specs.declared.Conversion.{Conversion}
 use Rattle.picture.specs.Convert.{needed, convertSays, convertBytes}
 
--- What one call says, and what it leaves in a destination that held anything before.
+-- What a call answers, and what it leaves in a destination that held anything before.
 pub record Called (c : Conversion) (src before after : List ℕ) (answer : Said) : Type 0 where
   pub says : answer ≡ convertSays c src (length before)
   pub bytes : after ≡ convertBytes c src before
 
--- "Each destination has exactly the length needed."
+-- A call whose destination has the length that it needs.
 pub record Call (c : Conversion) (src before after : List ℕ) (answer : Said) : Type 0 where
   pub room : length before ≡ needed c src
   pub called : Called c src before after answer

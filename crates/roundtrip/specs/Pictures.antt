@@ -1,4 +1,4 @@
--- Pictures, their pixels and channels (document 01, "Wall run and counter run").
+-- Pictures, their pixels and channels (rules, section 5).
 -- Assumes nothing.
 use Prim.Native.Nat.{ℕ, _%_, _^_, _<_}
 use mathlib.Core.Path.{_≡_}
@@ -7,7 +7,7 @@ use lib.ListN.{length, getD}
 use Rattle.samples.specs.Samples.{pixelSize, Pixel, read}
 use Rattle.picture.specs.Forms.{Form, bitsOf, wideForm, pixelsIn}
 
--- "A channel is one sample of a pixel."
+-- A channel: the first, second or third sample of a pixel.
 pub data Channel : Type 0 where
   first second third : Channel
 
@@ -16,12 +16,12 @@ channel first p = p .0
 channel second p = p .1
 channel third p = p .2
 
--- The pixel with number j of a buffer.
+-- The j-th pixel of a buffer.
 abbrev pub pixelAt : Form → List ℕ → ℕ → Pixel
 pixelAt form bytes j = getD (read (wideForm form) bytes) j (0, 0, 0)
 
--- "A picture is here a buffer of whole pixels, an empty one too; each sample of e-sRGB is a code of its depth, each of sRGB
--- any byte." Luma and chroma are held to their depth alike.
+-- Whole pixels, perhaps none, with each sample in the range of the form's bits; of sRGB every byte is. Luma and chroma are held to
+-- their depth in the same way.
 pub record Picture (form : Form) (bytes : List ℕ) : Type 0 where
   pub whole : length bytes % pixelSize (wideForm form) ≡ 0
   pub codes : (j : ℕ) → j < pixelsIn form bytes → (k : Channel) → channel k (pixelAt form bytes j) < 2 ^ bitsOf form

@@ -1,5 +1,5 @@
--- What the two programs of this crate promise: each call as Convert's definition has it, whatever the buffers are; and demand 3, where the
--- picture is a picture and every destination has exactly the length needed.
+-- What the two functions of this crate promise: each call as Convert's definition has it, whatever the buffers are; and demand 3, if the
+-- depth is offered, the picture is a picture and every destination has the length needed.
 -- Assumes nothing.
 use Prim.Native.Nat.{ℕ, _*_, _%_}
 use mathlib.Core.Path.{_≡_}
@@ -29,8 +29,8 @@ pub record Rooms (picture b₀ b₁ b₂ b₃ b₄ : List ℕ) : Type 0 where
   pub direct : length b₃ ≡ length picture
   pub round : length b₄ ≡ length picture
 
--- An sRGB picture to codes, those through luma and chroma and back, and both brought back to 8 bits: `direct` from the codes, `round` from
--- what the round trip brought back. Any bytes are an sRGB picture, if they are whole pixels.
+-- An sRGB picture to codes, the codes through luma and chroma and back, and both brought to 8 bits: `direct` from the codes, `round` from
+-- what the round trip brought back. Whole pixels of any bytes are an sRGB picture.
 pub record BothRuns (n : ℕ) (picture b₀ codes b₁ ycc b₂ back b₃ direct b₄ round : List ℕ) (a₀ a₁ a₂ a₃ a₄ : Said) : Type 0 where
   pub made : Called (FromSrgb n) picture b₀ codes a₀
   pub trip : Trip n codes b₁ ycc b₂ back a₁ a₂

@@ -1,6 +1,7 @@
-// Demand 3: a picture and its round trip through luma and chroma agree. `specs/Agreement.antt` states it of
-// every picture and the whole chain of Convert's calls, and `proofs/Demand.antt` proves it. The two
-// functions here make those calls, in buffers that the caller lends, and promise the same.
+// Demand 3 (rules, section 5): a picture and its round trip through luma and chroma agree.
+// `specs/Agreement.antt` states it of every picture and the whole chain of Convert's calls, and
+// `proofs/Demand.antt` proves it. The two functions here make those calls, in buffers that the caller
+// lends, and promise the same.
 use picture::Conversion;
 use refusal::Answer;
 ghost use Rattle.refusal.specs.Answers.{said};
@@ -12,7 +13,8 @@ pub struct TripAnswers {
     pub again: Answer,
 }
 
-// Document 01's counter run: a picture of codes to luma and chroma, and back in a third buffer.
+// The round trip, document 01's counter run: a picture of codes to luma and chroma, and back to codes in
+// a third buffer.
 pub fn round_trip(depth: u32, codes: &[u8], ycc: &mut [u8], back: &mut [u8]) -> TripAnswers
     ensures { λ r. ⌜ Trip depth (now (codes .entry)) (now (ycc .entry)) (now (ycc .exit)) (now (back .entry)) (now (back .exit)) (said (r .there)) (said (r .again)) ⌝ }
 {
@@ -30,8 +32,8 @@ pub struct RunAnswers {
     pub round: Answer,
 }
 
-// Both runs of an sRGB picture: to codes, those through luma and chroma and back, and then both pictures of
-// codes to 8 bits, each in a buffer of its own.
+// Both runs of an sRGB picture: to codes, the codes through luma and chroma and back, and then to 8 bits
+// twice, `direct` from the codes and `round` from what came back.
 pub fn both_runs(
     depth: u32,
     picture: &[u8],

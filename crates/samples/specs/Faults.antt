@@ -1,4 +1,4 @@
--- The first sample at fault, and the order of refusals (document 01, "Turned away", Convert).
+-- The first sample at fault, and the order of refusals (rules 4.2 and 4.3).
 -- Assumes nothing.
 use Prim.Native.Nat.{ℕ, _+_, _%_}
 use mathlib.Core.Bool.{Bool, cond, not, _&&_}
@@ -19,13 +19,12 @@ abbrev pub verdict : Finding → Verdict
 verdict Sound = sound
 verdict (Fault r) = faulty (numberOf r)
 
--- "12 sample above 2^n − 1; 13 chroma code 0 on a sheet read": sample x, the one with number k of its buffer. Of luma and chroma's
--- three samples the first is luma, and the others are chroma.
+-- Rule 4.3, of sample x, which is the k-th of its buffer: 12 above the greatest code, 13 for a chroma of 0. Of a pixel's three samples
+-- the first is luma and the other two are chroma.
 unfoldable pub fault : Bool → ℕ → ℕ → ℕ → Verdict
 fault chroma greatest k x = cond (ltb greatest x) (faulty 12) (cond (chroma && (not (eqb (k % 3) 0) && eqb x 0)) (faulty 13) sound)
 
--- "Then samples in byte order, the first at fault deciding .. 12 and 13 give the byte offset of the sample": the samples
--- xs, the first of which has number k, and what is said where none is at fault.
+-- Rule 4.3, of samples xs, the first of which is the k-th: the first fault and its place, or `done` if there is none.
 abbrev pub decides : Verdict → ℕ → Said → Said
 decides sound at rest = rest
 decides (faulty number) at rest = refusedAt number at
@@ -35,7 +34,6 @@ judged wide chroma greatest done k [] = done
 judged wide chroma greatest done k (x ∷ xs) =
     decides (fault chroma greatest k x) (place wide k) (judged wide chroma greatest done (k + 1) xs)
 
--- "9 a depth not offered; 10 source isn't a whole number of pixels; 11 destination isn't exactly the length needed; then
--- samples", in this order.
+-- Rule 4.2, the order of Convert's refusals: depth, source, destination, samples.
 abbrev pub inOrder : Bool → Bool → Bool → Said → Said
 inOrder offered whole exact samples = cond offered (cond whole (cond exact samples (refused 11)) (refused 10)) (refused 9)

@@ -1,5 +1,5 @@
--- How the code looks for the first fault: quickly over all samples, and then pixel by pixel. No notion of document 01: the proofs
--- show that what it finds is `judged`.
+-- How the code looks for the first fault: quickly over all samples, and then pixel by pixel. The proofs show that what it finds is
+-- `judged` (Faults).
 -- Assumes nothing.
 use Prim.Native.Nat.{ℕ, _≤_}
 use mathlib.Core.Path.{_≡_}
@@ -11,8 +11,8 @@ use Rattle.refusal.specs.Answers.{Said}
 use Rattle.samples.specs.Samples.{Pixel}
 use Rattle.samples.specs.Faults.{judged}
 
--- The quick look: are all samples from least to greatest? The least of luma and chroma is 1, so that a chroma of 0 does not pass; a luma
--- of 0 does not either, and is left to the search.
+-- The quick look: are all samples within bounds? For luma and chroma the lower bound is 1, so that no chroma of 0 passes. A luma of 0
+-- does not pass either, though it is sound: the search that follows sees that.
 abbrev pub leastOf : Bool → ℕ
 leastOf true = 1
 leastOf false = 0
@@ -26,7 +26,7 @@ abbrev pub atFault : Bool → ℕ → Pixel → Bool
 atFault chroma greatest p =
     ltb greatest (p .0) || ltb greatest (p .1) || ltb greatest (p .2) || (chroma && (eqb (p .1) 0 || eqb (p .2) 0))
 
--- The samples before number k are sound, so that those from k on decide.
+-- All samples before the k-th are sound, so that those from the k-th on decide.
 pub record SoundTo (chroma : Bool) (greatest : ℕ) (xs : List ℕ) (k : ℕ) : Type 0 where
   pub inside : k ≤ length xs
   pub skips : (done : Said) → judged true chroma greatest done 0 xs ≡ judged true chroma greatest done k (drop k xs)

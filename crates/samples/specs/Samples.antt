@@ -1,4 +1,4 @@
--- Samples and pixels in a buffer (document 01, "The spool file").
+-- Samples and pixels in a buffer (rules, section 3).
 -- Assumes nothing.
 use Prim.Native.Nat.{ℕ, _*_, _/_}
 use mathlib.Core.Bool.{Bool, true, false, not}
@@ -6,11 +6,11 @@ use mathlib.Core.List.{List, [], _∷_, _++_}
 use lib.Dec.{eqb}
 use Rattle.numbers.specs.Bytes.{littleEndian, lowBytes}
 
--- "A sample is one byte at 8 bits, else two": are samples of so many bits two bytes wide?
+-- Rule 3.1: samples of 8 bits are one byte wide, all others two.
 abbrev pub isWide : ℕ → Bool
 isWide bits = not (eqb bits 8)
 
--- The byte offset of sample k.
+-- Rule 3.3: where the k-th sample starts.
 abbrev pub place : Bool → ℕ → ℕ
 place true k = 2 * k
 place false k = k
@@ -20,11 +20,11 @@ abbrev pub sampleCount : Bool → ℕ → ℕ
 sampleCount true bytes = bytes / 2
 sampleCount false bytes = bytes
 
--- The bytes of a pixel, "three samples each".
+-- Rule 3.2: the bytes of a pixel.
 abbrev pub pixelSize : Bool → ℕ
 pixelSize wide = place wide 3
 
--- The samples of a buffer: its bytes, or its bytes two by two, "the low byte first".
+-- The samples of a buffer: its bytes, or its bytes two by two, low byte first (rule 3.1).
 abbrev pub twoByTwo : List ℕ → List ℕ
 twoByTwo [] = []
 twoByTwo (low ∷ []) = []
@@ -43,7 +43,7 @@ abbrev pub bytesOf : Bool → List ℕ → List ℕ
 bytesOf wide [] = []
 bytesOf wide (x ∷ xs) = sampleBytes wide x ++ bytesOf wide xs
 
--- A pixel is three samples: red, green and blue, or luma, blue chroma and red chroma.
+-- Rule 3.2: a pixel is three samples, red, green, blue or luma, blue chroma, red chroma.
 abbrev pub Pixel : Type 0
 Pixel = ℕ × ℕ × ℕ
 

@@ -1,6 +1,6 @@
 // Samples in pixel buffers: one or two bytes each, three to a pixel; and the first sample at fault.
-// It promises the refusal and the place that document 01 fixes, for any buffer and any limit, and
-// asks nothing of a caller.
+// It promises the refusal and the place of rule 4.3, for any buffer and any limit, and asks nothing
+// of a caller.
 use numbers::from_two;
 use refusal::Answer;
 use refusal::Refusal;
@@ -68,8 +68,8 @@ fn at_fault(chroma: bool, greatest: u16, a: u16, b: u16, c: u16) -> bool
     (greatest < a) | (greatest < b) | (greatest < c) | (chroma & ((b == 0) | (c == 0)))
 }
 
-// The number of the first sample of the first pixel at fault; where there is none, of the sample behind the
-// last whole pixel. A pixel takes one test, which is what makes it quick.
+// The number of the first sample of the first pixel at fault or, if there is none, of the sample behind
+// the last whole pixel. It is quick because a pixel takes one test.
 fn sound_start(chroma: bool, greatest: u16, src: &[u8]) -> usize
     ensures { λ r. ⌜ SoundTo chroma greatest (twoByTwo (now (src .entry))) r ⌝ }
 {
@@ -92,7 +92,7 @@ fn sound_start(chroma: bool, greatest: u16, src: &[u8]) -> usize
     3 * end
 }
 
-// The samples one after another from number `start` on, up to the first at fault.
+// The samples from number `start` on, up to the first at fault.
 fn first_fault(chroma: bool, greatest: u16, src: &[u8], pixels: usize, start: usize) -> Answer
     requires { ⌜ SoundTo chroma greatest (twoByTwo (now src)) start ⌝ }
     ensures { λ r. ⌜ said r ≡ judged true chroma greatest (accepted pixels) 0 (twoByTwo (now (src .entry))) ⌝ }
@@ -119,8 +119,8 @@ fn least_of(chroma: bool) -> u16
     if chroma { 1 } else { 0 }
 }
 
-// Are all samples from least to greatest? There is no way out before the end, so that a compiler
-// can look at several samples at once.
+// Are all samples within bounds? The loop has no early exit, so that a compiler can look at several
+// samples at once.
 fn all_within(least: u16, greatest: u16, src: &[u8]) -> bool
     ensures { λ r. ⌜ r ≡ allWithin least greatest (twoByTwo (now (src .entry))) ⌝ }
 {
@@ -135,9 +135,9 @@ fn all_within(least: u16, greatest: u16, src: &[u8]) -> bool
     !out
 }
 
-// The samples of a buffer of two-byte samples: the first at fault, or the pixel count where there
-// is none. A picture is nearly always sound, and then the quick look decides;
-// of 16 bits, no sample of codes can be at fault, and none is looked at.
+// The first fault in a buffer of two-byte samples, or the pixel count if there is none. Nearly every
+// picture is sound, and then the quick look decides. Codes of 16 bits cannot be at fault and are not
+// looked at.
 pub fn judge(chroma: bool, greatest: u16, src: &[u8], pixels: usize) -> Answer
     ensures { λ r. ⌜ said r ≡ judged true chroma greatest (accepted pixels) 0 (twoByTwo (now (src .entry))) ⌝ }
 {

@@ -1,4 +1,4 @@
--- Find a frame (document 01, "Turned away").
+-- Find a frame (rule 7.6).
 -- Assumes nothing.
 use Prim.Native.Nat.{ℕ, _+_, _*_}
 use mathlib.Core.Bool.{Bool, cond, _||_}
@@ -15,7 +15,7 @@ use Rattle.spool.specs.declared.Found.{Found}
 use Rattle.spool.specs.declared.Found.the-variants.{Frame, Refused}
 use Rattle.spool.specs.Open.{openFault}
 
--- The record of frame k. "Frames count from 0."
+-- The record of frame k; the first has number 0.
 unfoldable pub recordAt : List ℕ → ℕ → FrameRecord
 recordAt file k = recordIn (drop (headerIn file .table + recordSize * k) file)
 
@@ -23,7 +23,7 @@ recordAt file k = recordIn (drop (headerIn file .table + recordSize * k) file)
 abbrev pub pixelEnd : FrameRecord → ℕ
 pixelEnd r = r .offset + pixelBytes r
 
--- "8 pixel offset below 12 or pixel end past the file."
+-- 8: the pixels start inside the header or end behind the file.
 unfoldable pub pixelsOutside : List ℕ → FrameRecord → Bool
 pixelsOutside file r = ltb (r .offset) headerSize || ltb (length file) (pixelEnd r)
 
@@ -31,15 +31,15 @@ pixelsOutside file r = ltb (r .offset) headerSize || ltb (length file) (pixelEnd
 abbrev pub orElse : ℕ → ℕ → ℕ
 orElse first second = cond (eqb first 0) second first
 
--- "6 ..; 7 ..; 8 ..": the refusal of a record in its file.
+-- The refusal of a record in its file: 6, 7, then 8.
 abbrev pub frameFault : List ℕ → FrameRecord → ℕ
 frameFault file r = orElse (recordFault r) (cond (pixelsOutside file r) 8 0)
 
--- "Open's refusals first; 5 frame number not below the count"; then those of its record.
+-- The refusal of a frame number: Open's, then 5, then that of its record.
 unfoldable pub findFault : List ℕ → ℕ → ℕ
 findFault file k = orElse (openFault file) (cond (ltb k (headerIn file .count)) (frameFault file (recordAt file k)) 5)
 
--- Accepted, the record; refused, the number, "and the record is all zeros".
+-- The answer: the record; or the refusal, with a record of zeros.
 pub data FindSaid : Type 0 where
   finds : FrameRecord → FindSaid
   refused : ℕ → FrameRecord → FindSaid
@@ -60,8 +60,8 @@ frameSays file r = byFault (frameFault file r) r
 abbrev pub findSays : List ℕ → ℕ → FindSaid
 findSays file k = byFault (findFault file k) (recordAt file k)
 
--- "The frame's own stretch of the lent file": where its pixels start and how many bytes they are; "refused, the stretch is
--- empty, at the file's start".
+-- The frame's pixels in the lent file, document 01's stretch: where they start and how many bytes they are. Refused, there are none, at
+-- the file's first byte.
 abbrev pub pixelsStart : FindSaid → ℕ
 pixelsStart (finds r) = r .offset
 pixelsStart (refused n r) = 0
@@ -73,7 +73,7 @@ pixelsLength (refused n r) = 0
 abbrev pub pixelsOf : List ℕ → ℕ → List ℕ
 pixelsOf file k = take (pixelsLength (findSays file k)) (drop (pixelsStart (findSays file k)) file)
 
--- A part of the file that is frame k's pixels: its bytes, and where it lies in the file's own memory.
+-- A part of the file that is frame k's pixels: its bytes, and where it lies in the caller's own memory.
 pub record IsPixels (file : RefT (List ℕ)) (k : ℕ) (part : RefT (List ℕ)) : Type 0 where
   pub bytes : now part ≡ pixelsOf (now file) k
   pub block : ptr part .0 ≡ ptr file .0

@@ -1,4 +1,4 @@
--- Open a spool (document 01, "Turned away").
+-- Open a spool (rule 7.5).
 -- Assumes nothing.
 use Prim.Native.Nat.{ℕ, _+_, _*_}
 use mathlib.Core.Bool.{cond, not, _||_}
@@ -11,7 +11,7 @@ use Rattle.spool.specs.declared.Opened.the-variants.{Spool, Refused}
 use Rattle.records.specs.Layout.{headerSize, recordSize, headerIn}
 use Rattle.records.specs.Faults.{frameLimit}
 
--- "Accepted, the frame count, the shop and the table offset"; "refused, it gives the number only".
+-- The answer: frame count, shop and offset of the table; or the refusal's number alone.
 pub data OpenSaid : Type 0 where
   opens : ℕ → ℕ → ℕ → OpenSaid
   refused : ℕ → OpenSaid
@@ -24,8 +24,8 @@ openSaid (Refused r) = refused (numberOf r)
 abbrev pub tableEnd : List ℕ → ℕ
 tableEnd file = headerIn file .table + recordSize * headerIn file .count
 
--- "1 shorter than 12 bytes; 2 the length in the header isn't the file's; 3 count above 255 (0 is allowed); 4 table offset
--- below 12, or table end past the file"; 0 where there is none of these.
+-- The first refusal, in the rule's order: no room for a header, another length than the file's, too many frames, a table outside the
+-- file or inside the header; 0 stands for none.
 unfoldable pub openFault : List ℕ → ℕ
 openFault file =
     cond (ltb (length file) headerSize) 1

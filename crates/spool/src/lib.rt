@@ -1,6 +1,6 @@
-// Opening a spool file, and finding a frame in it. It promises document 01's refusals in document
-// 01's order for any bytes at all, every field of what it reads, and where in the lent file a
-// frame's pixels lie; it asks nothing of a caller.
+// Opening a spool file, and finding a frame in it (rules 7.5 and 7.6). It promises the refusals in their
+// order for any bytes at all, every field of what it reads, and where in the lent file a frame's pixels
+// lie; it asks nothing of a caller.
 use records::Checked;
 use records::FRAME_LIMIT;
 use records::FrameRecord;
@@ -111,8 +111,8 @@ pub fn find(file: &[u8], number: usize) -> Found
     }
 }
 
-// A frame's pixels, where they lie in the lent file. Where the frame is refused, the part is empty
-// and lies at the file's start.
+// A frame's pixels, where they lie in the lent file. For a frame that is refused, that is the empty
+// part at the file's start.
 pub fn pixels(file: &[u8], number: usize) -> &[u8]
     ensures { λ r. ⌜ IsPixels (file .entry) number r ⌝ }
 {

@@ -1,4 +1,4 @@
--- Document 01's starred examples of light, as facts about the definitions: a level has the code that is the offset more.
+-- The examples of light (rule 10.2), as facts about the definitions. A level's code is the offset more.
 -- Assumes nothing.
 use Prim.Native.Nat.{ℕ, suc, _+_, _-_, min}
 use mathlib.Core.Path.{_≡_, refl, ap}
@@ -12,7 +12,7 @@ use Rattle.transfer.specs.Level.{reachesLevel, levelOfLight, codeOfLight
 use Rattle.transfer.proofs.Light.{isLight, light-is}
 use Rattle.transfer.proofs.Level.{isFrom, isBelow, level-from, level-below}
 
--- "Light at 12 bits, levels 1, −1, 82, 2,040: 38, −38, 3,111, 1,000,000. Level 20 at 10 bits: 3,035." negsuc 37 is −38.
+-- Code to light; negsuc 37 is −38.
 pub light-examples :
     (lightOfCode 12 (offset 12 + 1) ≡ pos 38)
     × (lightOfCode 12 (offset 12 - 1) ≡ negsuc 37)
@@ -31,7 +31,7 @@ light-examples = (
 level-is : (S q w : ℕ) → isFrom S q w ≡ true → isBelow S q (suc w) ≡ true → levelOfLight S q ≡ w
 level-is S q w from below = omega (arith, level-from S q w from, level-below S q (suc w) below)
 
--- "Light 3,130 at 12 bits: code 1,618. 3,131: code 1,619."
+-- Light to code, on either side of the bend.
 pub code-examples : (codeOfLight 12 (pos 3130) ≡ 1618) × (codeOfLight 12 (pos 3131) ≡ 1619)
 unfolding codeOfLight nearest reachesLevel isFrom isBelow
 code-examples = (

@@ -46,7 +46,7 @@ pub light-table-holds : {lights : List ℕ} → length lights ≡ levels 12 → 
 light-table-holds {lights} size t =
     record { at = λ v h. sym (light-is (scale 12) v (getD lights v 0) (passes-at (isLight (scale 12)) lights t v (rw size h))) }
 
--- "Light is a signed 32-bit number."
+-- A light fits 32 bits with a sign (rule 6.1).
 small-by :
     (S v : ℕ) → 1 ≤ S → (b : Bool) → lowLevel S v ≡ b
     → cond b (nearest (10 ^ 8 * v) (1292 * S)) (lastPassing (reachesLight S v) greatestLight) < 2 ^ 31

@@ -1,4 +1,4 @@
--- "A 10-bit level times 4 is a 12-bit level of the same light": the light of a level goes by its proportion to the scale.
+-- Rule 6.6: the light of a level depends on its proportion to the scale alone, so 10-bit levels are 12-bit levels times 4.
 -- Assumes nothing.
 use Prim.Native.Nat.{ℕ, zero, suc, _+_, _-_, _*_, _^_, _/_, _≤_, _<_}
 use mathlib.Core.Path.{_≡_, refl, sym, ap, _∙_}

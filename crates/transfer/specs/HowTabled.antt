@@ -1,4 +1,4 @@
--- What the constant tables hold.
+-- How the code spares every power: what its constant tables hold.
 -- Assumes nothing.
 use Prim.Native.Nat.{ℕ, _-_, _^_, _≤_, _<_}
 use mathlib.Core.Path.{_≡_}
@@ -12,7 +12,7 @@ use Rattle.transfer.specs.Level.{levelOfLight}
 abbrev pub levels : ℕ → ℕ
 levels n = 2 ^ n - offset n
 
--- "One table of 2,560 light values, for levels 0 to 2,559."
+-- Rule 6.6: the light of each 12-bit level from 0 up.
 pub record LightTable (lights : List ℕ) : Type 0 where
   pub at : (v : ℕ) → v < levels 12 → getD lights v 0 ≡ lightOfLevel (scale 12) v
 

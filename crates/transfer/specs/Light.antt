@@ -1,4 +1,4 @@
--- One sample from code to light (document 01, "Light"; PIMA 7667, equations 5 and 6a to 6c).
+-- One sample from code to light (rules 6.1, 6.2, 6.4 and 6.5; PIMA 7667, equations 5 and 6a to 6c).
 -- Assumes nothing.
 use Prim.Native.Nat.{ℕ, _+_, _-_, _*_, _^_}
 use mathlib.Core.Bool.{Bool, cond, _||_}
@@ -8,37 +8,35 @@ use Rattle.numbers.specs.Rounding.{nearest}
 use Rattle.esrgb.specs.Depths.{offset, step}
 use Rattle.transfer.specs.Search.{lastPassing}
 
--- "Light .. is offered at 10 and 12 bits."
+-- Rule 6.1: the depths that have light.
 abbrev pub offersLight : ℕ → Bool
 offersLight n = eqb n 10 || eqb n 12
 
--- "The scale S is 255 × 2^(n−9)."
+-- Rule 1.5: the level of white.
 abbrev pub scale : ℕ → ℕ
 scale n = 255 * step n
 
--- Below, S is a scale and v a level without its sign: u is v ÷ S (equation 5), and every comparison is multiplied out to
--- whole numbers.
+-- Below, S is a scale, v the size of a level, and u is v / S (equation 5). Comparisons are multiplied out to whole numbers.
 
--- "u ≤ 0.04045": the linear segment near black (6b).
+-- The straight part of the curve near black, up to u = 0.04045 (equation 6b).
 abbrev pub lowLevel : ℕ → ℕ → Bool
 lowLevel S v = leb (100000 * v) (4045 * S)
 
--- Beyond it (6a, 6c), is "((u + 0.055) ÷ 1.055)^2.4; times 1,000,000" at least q − 1/2? "2.4 is 12 ÷ 5, so a candidate
--- is judged by comparing fifth and twelfth powers of whole numbers. (u + 0.055) ÷ 1.055 equals (200 × |v| + 11 × S) ÷
--- (211 × S)." A search begins at q = 1, so that the difference is never cut off at 0.
+-- Beyond it (6a, 6c): is 1,000,000 × ((u + 0.055) / 1.055)^(12/5) at least q − 1/2? Rule 6.5: both sides are doubled and taken to the
+-- fifth power, and the fraction is written (200 v + 11 S) / (211 S). A search ends at q = 1, so that 2 q − 1 is never cut off at 0.
 unfoldable pub reachesLight : ℕ → ℕ → ℕ → Bool
 reachesLight S v q = leb ((2 * q - 1) ^ 5 * (211 * S) ^ 12) ((2 * 10 ^ 6) ^ 5 * (200 * v + 11 * S) ^ 12)
 
--- "Light is a signed 32-bit number."
+-- Rule 6.1: the greatest number of 32 bits with a sign.
 abbrev pub greatestLight : ℕ
 greatestLight = 2 ^ 31 - 1
 
--- "u ÷ 12.92 if u ≤ 0.04045, else ((u + 0.055) ÷ 1.055)^2.4; times 1,000,000, to the nearest whole number, ties away from
--- zero": of a magnitude that is upward, and then the nearest to x is the last q with q − 1/2 ≤ x.
+-- Rule 6.2, of sizes: the light of a level. Ties go upward, which is away from zero (rule 6.4), so that the nearest to x is the last q
+-- with q − 1/2 ≤ x.
 unfoldable pub lightOfLevel : ℕ → ℕ → ℕ
 lightOfLevel S v = cond (lowLevel S v) (nearest (10 ^ 8 * v) (1292 * S)) (lastPassing (reachesLight S v) greatestLight)
 
--- "The level v of a code is the code minus the offset; it may be negative", and its light is "with the sign of v".
+-- Rules 1.5 and 6.2, with the sign: the light of a code.
 unfoldable pub lightOfCode : ℕ → ℕ → ℤ
 lightOfCode n code =
     cond (ltb code (offset n))

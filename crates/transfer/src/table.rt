@@ -1,5 +1,5 @@
 // The table of light by 12-bit level, in millionths. Every entry is proved to be the light that
-// specs/Light.antt defines. To have the numbers again, bisect its power test for each level.
+// specs/Light.antt defines. The numbers can be made again by bisecting its power test for each level.
 ghost use Rattle.transfer.specs.HowTabled.{LightTable};
 
 const LIGHTS: [u32; 2560] = [

@@ -1,6 +1,6 @@
 // The tables of thresholds: by level, the least light whose level is that or a greater one. Every
-// entry is proved to be that of specs/Level.antt. To have the numbers again, bisect its definition of
-// a light's level for each level.
+// entry is proved to be that of specs/Level.antt. The numbers can be made again by bisecting its
+// definition of a light's level for each level.
 ghost use Rattle.transfer.specs.HowTabled.{ThresholdTable};
 
 const AT_TEN: [u32; 640] = [

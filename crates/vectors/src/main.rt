@@ -1,5 +1,5 @@
-// Runs document 01's unstarred swatches and the neutral patches of PIMA 7667's table (4.4.3), and prints what
-// the library gives. `stdout` beside this has what the second implementation gives for them: see
+// Runs the examples that are tested (rules 10.6 and 10.7: limits, depths, and the neutral patches of PIMA
+// 7667's table), and prints what the library gives. `stdout` beside this has what the second implementation gives for them: see
 // rust/reference, whose program of the same name prints it.
 use libc::STDOUT_FILENO;
 use picture::Conversion;

@@ -1,13 +1,13 @@
--- Every starred swatch holds. A pixel's is computed; light's are computed by the powers that decide them.
+-- Every example holds. Those of pixels are computed; those of light are computed by the powers that decide them.
 -- Assumes nothing.
 use mathlib.Core.Path.{refl}
 use Rattle.numbers.specs.Rounding.{nearest, nearestDown}
 use Rattle.esrgb.specs.Codes.{fromSrgb, toSrgb}
 use Rattle.lumachroma.specs.LumaChroma.{luma, chroma, blueChroma, redChroma, clipped, redBack, greenBack, blueBack}
 use Rattle.transfer.proofs.Examples.{light-examples, code-examples}
-use Rattle.swatches.specs.Swatches.{AllHold, done, _&_, swatches}
+use Rattle.examples.specs.Examples.{AllHold, done, _&_, examples}
 
-pub all-hold : AllHold swatches
+pub all-hold : AllHold examples
 unfolding nearest nearestDown fromSrgb toSrgb luma chroma blueChroma redChroma clipped redBack greenBack blueBack
 all-hold =
     refl & refl & refl & refl & refl

@@ -4,7 +4,7 @@
 ghost use mathlib.Core.Path.{_≡_};
 ghost use Rattle.esrgb.specs.Depths.{bits, Names, greatest, step};
 ghost use Rattle.esrgb.specs.Codes.{fromSrgb, toSrgb, changeDepth};
-ghost use Rattle.esrgb.specs.HowApplied.{applied, ruleOf, Computes};
+ghost use Rattle.esrgb.specs.HowApplied.{applied, ruleOf, Computes, lineOf, cutOf, changeOf};
 
 // A depth of e-sRGB.
 pub enum Depth {
@@ -107,7 +107,8 @@ fn to_eight(cut: Cut, sample: u16) -> u16
 
 // sRGB to e-sRGB.
 pub fn from_srgb(depth: Depth) -> Line
-    ensures { λ r. ⌜ Computes (SampleRule.Affine r) (fromSrgb (bits depth)) ⌝ }
+    ensures rule { λ r. ⌜ r ≡ lineOf (bits depth) ⌝ }
+    ensures computes { λ r. ⌜ Computes (SampleRule.Affine r) (fromSrgb (bits depth)) ⌝ }
 {
     let step = step_of(depth);
     Line {
@@ -118,7 +119,8 @@ pub fn from_srgb(depth: Depth) -> Line
 
 // e-sRGB to sRGB. From half a step below the offset on, the nearest value is no longer below 0.
 pub fn to_srgb(depth: Depth) -> Cut
-    ensures { λ r. ⌜ Computes (SampleRule.ToEight r) (toSrgb (bits depth)) ⌝ }
+    ensures rule { λ r. ⌜ r ≡ cutOf (bits depth) ⌝ }
+    ensures computes { λ r. ⌜ Computes (SampleRule.ToEight r) (toSrgb (bits depth)) ⌝ }
 {
     let step = step_of(depth);
     Cut {
@@ -134,7 +136,8 @@ pub enum DepthChange {
 }
 
 pub fn change_depth(from: Depth, to: Depth) -> DepthChange
-    ensures { λ r. ⌜ Computes (ruleOf r) (changeDepth (bits from) (bits to)) ⌝ }
+    ensures rule { λ r. ⌜ r ≡ changeOf (bits from) (bits to) ⌝ }
+    ensures computes { λ r. ⌜ Computes (ruleOf r) (changeDepth (bits from) (bits to)) ⌝ }
 {
     let n = bits_of(from);
     let m = bits_of(to);

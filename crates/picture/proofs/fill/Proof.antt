@@ -86,7 +86,7 @@ returns c =
     let told = c .before .before .before .before .before in
     let s = told .before .before .before .before in
     c .before .before .fill-samples .ensures
-    ∙ by-samples _ (now (s .args .src)) (now (s .args .dst)) (fits s _ (told .enum-told .given .1)) (fromSrgb (bits (s .args .to))) _ refl (c .before .before .before .before .from-srgb .ensures)
+    ∙ by-samples _ (now (s .args .src)) (now (s .args .dst)) (fits s _ (told .enum-told .given .1)) (fromSrgb (bits (s .args .to))) _ refl (c .before .before .before .before .from-srgb .ensures .1)
     ∙ back s _ (told .enum-told .given .1)
 
 same-length-2 : tie.Need-same-length-2
@@ -97,7 +97,7 @@ returns-2 c =
     let told = c .before .before .before .before .before in
     let s = told .before .before .before .before in
     c .before .before .fill-samples2 .ensures
-    ∙ by-samples _ (now (s .args .src)) (now (s .args .dst)) (fits s _ (told .enum-told2 .given .1)) (toSrgb (bits (s .args .from))) _ refl (c .before .before .before .before .to-srgb .ensures)
+    ∙ by-samples _ (now (s .args .src)) (now (s .args .dst)) (fits s _ (told .enum-told2 .given .1)) (toSrgb (bits (s .args .from))) _ refl (c .before .before .before .before .to-srgb .ensures .1)
     ∙ back s _ (told .enum-told2 .given .1)
 
 same-length-3 : tie.Need-same-length-3
@@ -108,7 +108,7 @@ returns-3 c =
     let told = c .before .before .before .before .before in
     let s = told .before .before .before .before in
     c .before .before .fill-change .ensures
-    ∙ by-samples _ (now (s .args .src)) (now (s .args .dst)) (fits s _ (told .enum-told3 .given .1)) (changeDepth (bits (s .args .from)) (bits (s .args .to))) _ refl (c .before .before .before .before .change-depth .ensures)
+    ∙ by-samples _ (now (s .args .src)) (now (s .args .dst)) (fits s _ (told .enum-told3 .given .1)) (changeDepth (bits (s .args .from)) (bits (s .args .to))) _ refl (c .before .before .before .before .change-depth .ensures .1)
     ∙ back s _ (told .enum-told3 .given .1)
 
 same-length-4 : tie.Need-same-length-4

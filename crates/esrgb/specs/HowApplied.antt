@@ -1,4 +1,4 @@
--- What a sample rule does: the arithmetic that the picture loops run, with the numbers of a depth worked out before.
+-- How the code applies a rule to each sample: the arithmetic that the picture loops run, with the numbers of a depth worked out before.
 -- Assumes nothing.
 use Prim.Native.Nat.{ℕ, _+_, _-_, _*_, _/_, _%_, _^_, min}
 use mathlib.Core.Path.{_≡_}

@@ -1,6 +1,6 @@
-// e-sRGB codes, one sample at a time: the depths that are offered, sRGB to e-sRGB and back, and one
-// depth to another. It promises that a rule computes what PIMA 7667 and document 01 define for its
-// depth, for every sample.
+// e-sRGB codes, one sample at a time (rules, section 1): the depths that are offered, sRGB to e-sRGB and
+// back, and one depth to another. It promises that a rule computes the definition of its depth, for every
+// sample.
 ghost use mathlib.Core.Path.{_≡_};
 ghost use Rattle.esrgb.specs.Depths.{bits, Names, greatest, step};
 ghost use Rattle.esrgb.specs.Codes.{fromSrgb, toSrgb, changeDepth};

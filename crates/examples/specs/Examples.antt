@@ -4,12 +4,14 @@ use Prim.Native.Nat.{ℕ, suc, _+_, _-_}
 use mathlib.Core.Path.{_≡_}
 use mathlib.Core.List.{List, [], _∷_}
 use lib.IntN.{ℤ, pos, negsuc}
-use Rattle.samples.specs.Samples.{Pixel}
+use Rattle.samples.specs.declared.Pixel.{Pixel}
+use Rattle.samples.specs.Samples.{pixel}
 use Rattle.esrgb.specs.Depths.{offset}
 use Rattle.esrgb.specs.Codes.{fromSrgb, toSrgb}
 use Rattle.picture.specs.declared.Conversion.{Conversion}
 use Rattle.picture.specs.declared.Conversion.the-variants.{FromSrgb, ToSrgb, ToLumaChroma}
-use Rattle.picture.specs.Convert.{each, lumaChromaOf, rgbOf, pixelOf}
+use Rattle.lumachroma.specs.LumaChroma.{toLumaChroma, toRgb}
+use Rattle.picture.specs.Convert.{each, pixelOf}
 use Rattle.transfer.specs.Light.{lightOfCode}
 use Rattle.transfer.specs.Level.{codeOfLight}
 
@@ -30,8 +32,8 @@ codeOfLevel n (negsuc k) = offset n - suc k
 -- back, and to sRGB; the light of a level; the code of a light.
 abbrev pub Holds : Example → Type 0
 Holds (convert c p printed) = pixelOf c p ≡ printed
-Holds (thereAndBack n p printed) = rgbOf n (lumaChromaOf n p) ≡ printed
-Holds (fromSrgbAndBack n p printed) = each (toSrgb n) (rgbOf n (lumaChromaOf n (each (fromSrgb n) p))) ≡ printed
+Holds (thereAndBack n p printed) = toRgb n (toLumaChroma n p) ≡ printed
+Holds (fromSrgbAndBack n p printed) = each (toSrgb n) (toRgb n (toLumaChroma n (each (fromSrgb n) p))) ≡ printed
 Holds (lightOf n level printed) = lightOfCode n (codeOfLevel n level) ≡ printed
 Holds (codeOf n light printed) = codeOfLight n light ≡ printed
 
@@ -43,11 +45,11 @@ pub data AllHold : List Example → Type 0 where
 abbrev pub examples : List Example
 examples =
     -- Rule 10.1.
-    convert (FromSrgb 10) (0, 128, 255) (384, 640, 894)
-    ∷ convert (FromSrgb 16) (255, 255, 255) (57216, 57216, 57216)
-    ∷ convert (ToSrgb 10) (383, 385, 893) (0, 1, 255)
-    ∷ convert (ToSrgb 10) (1023, 1023, 1023) (255, 255, 255)
-    ∷ convert (ToSrgb 12) (1539, 1540, 1540) (0, 1, 1)
+    convert (FromSrgb 10) (pixel 0 128 255) (pixel 384 640 894)
+    ∷ convert (FromSrgb 16) (pixel 255 255 255) (pixel 57216 57216 57216)
+    ∷ convert (ToSrgb 10) (pixel 383 385 893) (pixel 0 1 255)
+    ∷ convert (ToSrgb 10) (pixel 1023 1023 1023) (pixel 255 255 255)
+    ∷ convert (ToSrgb 12) (pixel 1539 1540 1540) (pixel 0 1 1)
     -- Rule 10.2.
     ∷ lightOf 12 (pos 1) (pos 38)
     ∷ lightOf 12 (negsuc 0) (negsuc 37)
@@ -57,15 +59,15 @@ examples =
     ∷ codeOf 12 (pos 3130) 1618
     ∷ codeOf 12 (pos 3131) 1619
     -- Rule 10.3.
-    ∷ convert (ToLumaChroma 10) (894, 384, 384) (536, 426, 767)
-    ∷ convert (ToLumaChroma 10) (0, 0, 1023) (117, 1023, 429)
-    ∷ convert (ToLumaChroma 10) (1023, 1023, 0) (906, 1, 595)
-    ∷ convert (ToLumaChroma 10) (894, 894, 894) (894, 512, 512)
+    ∷ convert (ToLumaChroma 10) (pixel 894 384 384) (pixel 536 426 767)
+    ∷ convert (ToLumaChroma 10) (pixel 0 0 1023) (pixel 117 1023 429)
+    ∷ convert (ToLumaChroma 10) (pixel 1023 1023 0) (pixel 906 1 595)
+    ∷ convert (ToLumaChroma 10) (pixel 894 894 894) (pixel 894 512 512)
     -- Rule 10.4.
-    ∷ thereAndBack 10 (894, 384, 384) (894, 383, 384)
-    ∷ thereAndBack 10 (384, 384, 894) (385, 384, 894)
-    ∷ thereAndBack 12 (1536, 1536, 3576) (1536, 1537, 3576)
+    ∷ thereAndBack 10 (pixel 894 384 384) (pixel 894 383 384)
+    ∷ thereAndBack 10 (pixel 384 384 894) (pixel 385 384 894)
+    ∷ thereAndBack 12 (pixel 1536 1536 3576) (pixel 1536 1537 3576)
     -- Rule 10.5.
-    ∷ fromSrgbAndBack 10 (0, 0, 255) (1, 0, 255)
-    ∷ fromSrgbAndBack 12 (0, 0, 255) (0, 0, 255)
+    ∷ fromSrgbAndBack 10 (pixel 0 0 255) (pixel 1 0 255)
+    ∷ fromSrgbAndBack 12 (pixel 0 0 255) (pixel 0 0 255)
     ∷ []

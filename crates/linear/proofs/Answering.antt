@@ -8,8 +8,9 @@ use native.Mathlib.Omega.{arith}
 use borrow.Author.Tests.{ne-eqb, ltb-false}
 use lib.Dec.{ltb}
 use lib.ListN.{getD}
-use Rattle.refusal.specs.Answers.{Said, accepted, refused, refusedAt, leaves}
-use Rattle.samples.specs.Faults.{faulty, sound, fault, decides, judged}
+use Rattle.refusal.specs.Answers.{faulty, sound, Said, accepted, refused, refusedAt, leaves}
+use Rattle.samples.specs.declared.Coding.the-variants.{Codes}
+use Rattle.samples.specs.Faults.{fault, decides, samplesSay}
 use Rattle.transfer.specs.Light.{offersLight}
 
 -- ---- an answer, and what it leaves in the destination
@@ -36,10 +37,10 @@ within-by top at x count rest true t e =
 within-by top at x count rest false t e = (ltb-false top x t, e)
 
 pub accepted-within :
-    (top pixels count k : ℕ) (xs : List ℕ) → judged true false top (accepted pixels) k xs ≡ accepted count → (i : ℕ) → getD xs i 0 ≤ top
-unfolding judged fault
+    (top pixels count k : ℕ) (xs : List ℕ) → samplesSay (Codes top false) (accepted pixels) k xs ≡ accepted count → (i : ℕ) → getD xs i 0 ≤ top
+unfolding samplesSay fault
 accepted-within top pixels count k [] e i = omega arith
 accepted-within top pixels count k (x ∷ xs) e zero =
-    within-by top (2 * k) x count (judged true false top (accepted pixels) (k + 1) xs) (ltb top x) refl e .0
+    within-by top (2 * k) x count (samplesSay (Codes top false) (accepted pixels) (k + 1) xs) (ltb top x) refl e .0
 accepted-within top pixels count k (x ∷ xs) e (suc i) =
-    accepted-within top pixels count (k + 1) xs (within-by top (2 * k) x count (judged true false top (accepted pixels) (k + 1) xs) (ltb top x) refl e .1) i
+    accepted-within top pixels count (k + 1) xs (within-by top (2 * k) x count (samplesSay (Codes top false) (accepted pixels) (k + 1) xs) (ltb top x) refl e .1) i

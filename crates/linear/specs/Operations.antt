@@ -1,34 +1,30 @@
 -- What the operations on buffers answer and write (rule 6.7).
 -- Assumes nothing.
-use Prim.Native.Nat.{ℕ, _*_, _/_, _%_}
+use Prim.Native.Nat.{ℕ, _/_}
 use mathlib.Core.Bool.{true, false}
 use mathlib.Core.List.{List, map}
-use lib.Dec.{eqb}
-use lib.ListN.{length}
 use lib.IntN.{ℤ}
 use Rattle.refusal.specs.Answers.{Said, accepted}
-use Rattle.samples.specs.Samples.{pixelSize, sampleCount, twoByTwo, bytesOf}
-use Rattle.samples.specs.Faults.{inOrder, judged}
+use Rattle.samples.specs.declared.Coding.the-variants.{Codes}
+use Rattle.samples.specs.Samples.{twoByTwo, bytesOf}
+use Rattle.samples.specs.Faults.{inOrder, sourceSays}
 use Rattle.esrgb.specs.Depths.{greatest}
 use Rattle.transfer.specs.Light.{offersLight, lightOfCode}
 use Rattle.transfer.specs.Level.{codeOfLight}
 
 -- Codes to light: 9, 10, 11, then the samples, in Convert's order. The source is bytes, two to a sample, and the destination has
--- `room` numbers.
-unfoldable pub codesToLightSays : ℕ → List ℕ → ℕ → Said
-codesToLightSays n src room =
-    inOrder (offersLight n) (eqb (length src % pixelSize true) 0) (eqb room (sampleCount true (length src)))
-    (judged true false (greatest n) (accepted (length src / pixelSize true)) 0 (twoByTwo src))
+-- `room` numbers, one to a sample.
+abbrev pub codesToLightSays : ℕ → List ℕ → ℕ → Said
+codesToLightSays n src room = sourceSays (offersLight n) (Codes (greatest n) false) false src room
 
 -- What it writes if it accepts: the light of each sample.
 abbrev pub codesToLight : ℕ → List ℕ → List ℤ
 codesToLight n src = map (lightOfCode n) (twoByTwo src)
 
--- Light to codes: 9, 10, 11, and no number is at fault. The source is so many numbers, three to a pixel, and the destination has
--- `room` bytes.
-unfoldable pub lightToCodesSays : ℕ → ℕ → ℕ → Said
-lightToCodesSays n numbers room =
-    inOrder (offersLight n) (eqb (numbers % 3) 0) (eqb room (2 * numbers)) (accepted (numbers / 3))
+-- Light to codes: 9, 10, 11, and no number is at fault. The source is so many numbers, one to a sample, and the destination has
+-- `room` bytes, two to a sample.
+abbrev pub lightToCodesSays : ℕ → ℕ → ℕ → Said
+lightToCodesSays n numbers room = inOrder (offersLight n) false true numbers room (accepted (numbers / 3))
 
 -- What it writes if it accepts: the code of each light, two bytes each.
 abbrev pub lightToCodes : ℕ → List ℤ → List ℕ

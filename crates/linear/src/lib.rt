@@ -4,11 +4,13 @@
 use esrgb::Depth;
 use esrgb::greatest_of;
 use esrgb::step_of;
-use numbers::from_two;
 use numbers::two_bytes;
 use refusal::Answer;
 use refusal::Refusal;
-use samples::judge;
+use samples::Coding;
+use samples::count_pixels;
+use samples::examine;
+use samples::sample;
 use transfer::table::light_table;
 use transfer::thresholds::thresholds_at_ten;
 use transfer::thresholds::thresholds_at_twelve;
@@ -48,14 +50,11 @@ fn codes_to_light(depth: Depth, src: &[u8], dst: &mut [i32]) -> Answer
     ensures answer { λ r. ⌜ said r ≡ codesToLightSays (bits depth) (now (src .entry)) (length (now (dst .entry))) ⌝ }
     ensures numbers { λ r. ⌜ now (dst .exit) ≡ leaves (codesToLightSays (bits depth) (now (src .entry)) (length (now (dst .entry)))) (codesToLight (bits depth) (now (src .entry))) (now (dst .entry)) ⌝ }
 {
-    let len = src.len();
-    if len % 6 != 0 {
-        return Answer::Refused(Refusal::NotWholePixels);
-    }
-    if dst.len() != len / 2 {
-        return Answer::Refused(Refusal::WrongRoom);
-    }
-    let answer = judge(false, greatest_of(depth), src, len / 6);
+    let coding = Coding::Codes {
+        greatest: greatest_of(depth),
+        chroma: false,
+    };
+    let answer = examine(coding, false, src, dst.len());
     match answer {
         Answer::Done(_) => {
             let lights = light_table();
@@ -72,9 +71,10 @@ fn write_lights(lights: &[u32; 2560], factor: u16, src: &[u8], dst: &mut [i32])
     requires { ⌜ LightTable (now lights) × (length (now dst) ≡ length (now src) / 2) × ((k : ℕ) → factor * getD (twoByTwo (now src)) k 0 < 4096) ⌝ }
     ensures { λ r. ⌜ now (dst .exit) ≡ map (λ x. lightOfCode 12 (factor * x)) (twoByTwo (now (src .entry))) ⌝ }
 {
+    let end = src.len() / 2;
     let mut k = 0;
-    while k < dst.len() {
-        let code = factor * from_two(src[2 * k], src[2 * k + 1]);
+    while k < end {
+        let code = factor * sample(src, true, k);
         dst[k] = light_of(lights, code);
         k += 1;
     }
@@ -133,15 +133,15 @@ fn light_to_codes(thresholds: &[u32], depth: Depth, src: &[i32], dst: &mut [u8])
     ensures answer { λ r. ⌜ said r ≡ lightToCodesSays (bits depth) (length (now (src .entry))) (length (now (dst .entry))) ⌝ }
     ensures bytes { λ r. ⌜ now (dst .exit) ≡ leaves (lightToCodesSays (bits depth) (length (now (src .entry))) (length (now (dst .entry)))) (lightToCodes (bits depth) (now (src .entry))) (now (dst .entry)) ⌝ }
 {
-    let len = src.len();
-    if len % 3 != 0 {
-        return Answer::Refused(Refusal::NotWholePixels);
+    let answer = count_pixels(false, true, src.len(), dst.len());
+    match answer {
+        Answer::Done(_) => {
+            write_codes(thresholds, depth, src, dst);
+        }
+        Answer::Refused(_) => {}
+        Answer::RefusedAt(_, _) => {}
     }
-    if dst.len() != 2 * len {
-        return Answer::Refused(Refusal::WrongRoom);
-    }
-    write_codes(thresholds, depth, src, dst);
-    Answer::Done(len / 3)
+    answer
 }
 
 // The two bytes of each code.

@@ -3,9 +3,9 @@
 -- Assumes nothing.
 use Prim.Native.Nat.{ℕ, _+_, _-_, _*_, min}
 use Rattle.numbers.specs.Rounding.{nearest, nearestDown}
+use Rattle.samples.specs.declared.Pixel.{Pixel}
+use Rattle.samples.specs.Samples.{pixel}
 use Rattle.esrgb.specs.Depths.{greatest, middle}
-use Rattle.lumachroma.specs.declared.Rgb.{Rgb}
-use Rattle.lumachroma.specs.declared.LumaChroma.{LumaChroma}
 
 -- Rule 2.2.
 unfoldable pub luma : ℕ → ℕ → ℕ → ℕ
@@ -38,19 +38,11 @@ greenBack n y cb cr = clipped n (587000 * y + (202008 + 419198) * middle n) (202
 unfoldable pub blueBack : ℕ → ℕ → ℕ → ℕ → ℕ
 blueBack n y cb cr = clipped n (1000 * y + 1772 * cb) (1772 * middle n) 1000
 
--- The whole pixel, there and back.
-abbrev pub toLumaChroma : ℕ → Rgb → LumaChroma
+-- Rule 2.1: the whole pixel, red, green, blue to luma, blue chroma, red chroma, and back.
+abbrev pub toLumaChroma : ℕ → Pixel → Pixel
 toLumaChroma n p =
-    record {
-      luma = luma (p .red) (p .green) (p .blue);
-      cb = blueChroma n (p .red) (p .green) (p .blue);
-      cr = redChroma n (p .red) (p .green) (p .blue);
-    }
+    pixel (luma (p .first) (p .second) (p .third)) (blueChroma n (p .first) (p .second) (p .third)) (redChroma n (p .first) (p .second) (p .third))
 
-abbrev pub toRgb : ℕ → LumaChroma → Rgb
+abbrev pub toRgb : ℕ → Pixel → Pixel
 toRgb n p =
-    record {
-      red = redBack n (p .luma) (p .cb) (p .cr);
-      green = greenBack n (p .luma) (p .cb) (p .cr);
-      blue = blueBack n (p .luma) (p .cb) (p .cr);
-    }
+    pixel (redBack n (p .first) (p .second) (p .third)) (greenBack n (p .first) (p .second) (p .third)) (blueBack n (p .first) (p .second) (p .third))

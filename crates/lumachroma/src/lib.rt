@@ -3,25 +3,12 @@
 // nothing of a caller.
 use esrgb::Depth;
 use esrgb::step_of;
+use samples::Pixel;
 ghost use mathlib.Core.Path.{_≡_};
 ghost use Prim.Native.Nat.{_+_, _-_, _*_, _≤_, min};
 ghost use Rattle.esrgb.specs.Depths.{bits, middle};
 ghost use Rattle.lumachroma.specs.LumaChroma.{chroma, toLumaChroma, toRgb};
 ghost use Rattle.lumachroma.specs.HowDivided.{InRange, Biased, Middle, clippedAt};
-
-// A pixel of e-sRGB codes.
-pub struct Rgb {
-    pub red: u16,
-    pub green: u16,
-    pub blue: u16,
-}
-
-// A pixel of document 01's sheet: luma, blue chroma and red chroma.
-pub struct LumaChroma {
-    pub luma: u16,
-    pub cb: u16,
-    pub cr: u16,
-}
 
 // 1000 times luma, not yet rounded. Chroma comes from it too, and so never from rounded luma.
 fn weighted_sum(red: u16, green: u16, blue: u16) -> u32
@@ -62,15 +49,15 @@ fn chroma_of(depth: Depth, up: u32, down: u32, den: u32) -> u16
     }
 }
 
-// A pixel of codes as luma and chroma.
-pub fn to_luma_chroma(depth: Depth, p: Rgb) -> LumaChroma
+// A pixel of codes, red, green and blue, as luma, blue chroma and red chroma.
+pub fn to_luma_chroma(depth: Depth, p: Pixel) -> Pixel
     ensures { λ r. ⌜ r ≡ toLumaChroma (bits depth) p ⌝ }
 {
-    let sum = weighted_sum(p.red, p.green, p.blue);
-    LumaChroma {
-        luma: ((sum + 500) / 1000) as u16,
-        cb: chroma_of(depth, 1000 * (p.blue as u32), sum, 1772),
-        cr: chroma_of(depth, 1000 * (p.red as u32), sum, 1402),
+    let sum = weighted_sum(p.first, p.second, p.third);
+    Pixel {
+        first: ((sum + 500) / 1000) as u16,
+        second: chroma_of(depth, 1000 * (p.third as u32), sum, 1772),
+        third: chroma_of(depth, 1000 * (p.first as u32), sum, 1402),
     }
 }
 
@@ -116,13 +103,13 @@ fn green_of(middle: u32, luma: u16, cb: u16, cr: u16) -> u16
 }
 
 // The way back. What comes back is a code of the depth, whatever the three numbers are.
-pub fn to_rgb(depth: Depth, p: LumaChroma) -> Rgb
+pub fn to_rgb(depth: Depth, p: Pixel) -> Pixel
     ensures { λ r. ⌜ r ≡ toRgb (bits depth) p ⌝ }
 {
     let middle = middle_of(depth);
-    Rgb {
-        red: add_chroma(middle, p.luma, p.cr, 1402),
-        green: green_of(middle, p.luma, p.cb, p.cr),
-        blue: add_chroma(middle, p.luma, p.cb, 1772),
+    Pixel {
+        first: add_chroma(middle, p.first, p.third, 1402),
+        second: green_of(middle, p.first, p.second, p.third),
+        third: add_chroma(middle, p.first, p.second, 1772),
     }
 }

@@ -1,3 +1,4 @@
 pub mod Lists
 pub mod Bytes
 pub mod Booleans
+pub mod Writing

@@ -1,3 +1,3 @@
 pub mod Filling
-pub mod Cases
-pub mod Written
+pub mod Planning
+pub mod Answering

@@ -4,8 +4,11 @@ use Prim.Native.Nat.{ℕ, _/_}
 use mathlib.Core.Bool.{Bool, true, false, _&&_}
 use mathlib.Core.List.{List}
 use lib.ListN.{length}
+use Rattle.samples.specs.declared.Coding.{Coding}
+use Rattle.samples.specs.declared.Coding.the-variants.{Bytes, Codes}
 use Rattle.samples.specs.Samples.{pixelSize}
-use Rattle.esrgb.specs.Depths.{offered}
+use Rattle.samples.specs.Faults.{wideCoding}
+use Rattle.esrgb.specs.Depths.{offered, greatest}
 use Rattle.picture.specs.declared.Conversion.{Conversion}
 use Rattle.picture.specs.declared.Conversion.the-variants.{FromSrgb, ToSrgb, ChangeDepth, ToLumaChroma, FromLumaChroma}
 
@@ -20,16 +23,14 @@ bitsOf srgb = 8
 bitsOf (esrgb n) = n
 bitsOf (lumaChroma n) = n
 
-abbrev pub hasChroma : Form → Bool
-hasChroma srgb = false
-hasChroma (esrgb n) = false
-hasChroma (lumaChroma n) = true
+-- Rule 4.3: what the samples of a form may be, and whether a chroma of 0 is at fault.
+abbrev pub codingOf : Form → Coding
+codingOf srgb = Bytes
+codingOf (esrgb n) = Codes (greatest n) false
+codingOf (lumaChroma n) = Codes (greatest n) true
 
--- Rule 3.1: of the forms, sRGB alone has 8 bits.
 abbrev pub wideForm : Form → Bool
-wideForm srgb = false
-wideForm (esrgb n) = true
-wideForm (lumaChroma n) = true
+wideForm form = wideCoding (codingOf form)
 
 -- How many pixels a buffer of a form holds.
 abbrev pub pixelsIn : Form → List ℕ → ℕ

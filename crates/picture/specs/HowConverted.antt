@@ -1,56 +1,71 @@
--- How the code converts: what it holds once it has looked at a conversion's depths, and what its pixel loop does.
+-- How the code converts: what it plans once it has looked at a conversion's depths, and what each of its loops writes.
 -- Assumes nothing.
 use Prim.Native.Nat.{ℕ, _%_}
 use mathlib.Core.Path.{_≡_}
-use mathlib.Core.Bool.{false}
-use mathlib.Core.List.{List}
+use mathlib.Core.Bool.{Bool, true, false}
+use mathlib.Core.List.{List, map}
 use lib.ListN.{length}
-use Rattle.samples.specs.Samples.{Pixel, pixelSize}
+use Rattle.samples.specs.declared.Pixel.{Pixel}
+use Rattle.samples.specs.declared.Coding.{Coding}
+use Rattle.samples.specs.Samples.{pixelSize, samplesOf, bytesOf, read, write}
+use Rattle.samples.specs.Faults.{wideCoding}
 use Rattle.esrgb.specs.declared.Depth.{Depth}
 use Rattle.esrgb.specs.Depths.{bits}
+use Rattle.esrgb.specs.Codes.{changeDepth}
+use Rattle.esrgb.specs.declared.SampleRule.the-variants as sample
+use Rattle.esrgb.specs.HowApplied.{applied}
+use Rattle.lumachroma.specs.LumaChroma.{toLumaChroma, toRgb}
 use Rattle.picture.specs.declared.Conversion.{Conversion}
-use Rattle.picture.specs.declared.Conversion.the-variants.{FromSrgb, ToSrgb, ChangeDepth, ToLumaChroma, FromLumaChroma}
-use Rattle.picture.specs.declared.Offers.{Offers}
-use Rattle.picture.specs.declared.Offers.the-variants.{Depths, NotOffered}
 use Rattle.picture.specs.declared.PixelRule.{PixelRule}
 use Rattle.picture.specs.declared.PixelRule.the-variants as rule
-use Rattle.picture.specs.declared.Three.{Three}
-use Rattle.picture.specs.Forms.{wideForm, source, offers}
-use Rattle.picture.specs.Convert.{lumaChromaOf, rgbOf, needed}
+use Rattle.picture.specs.declared.Work.{Work}
+use Rattle.picture.specs.declared.Work.the-variants.{Widen, Narrow, Scale, Drop, Pixels}
+use Rattle.picture.specs.declared.Plan.{Plan}
+use Rattle.picture.specs.declared.Plan.the-variants.{Run, NotOffered}
+use Rattle.picture.specs.Forms.{codingOf, wideForm, source, target, offers}
+use Rattle.picture.specs.Convert.{converted}
 
--- The depths that a conversion names, from and to; sRGB names none, and there the other side's stands for both.
-abbrev pub fromDepth : Conversion → ℕ
-fromDepth (FromSrgb n) = n
-fromDepth (ToSrgb n) = n
-fromDepth (ChangeDepth n m) = n
-fromDepth (ToLumaChroma n) = n
-fromDepth (FromLumaChroma n) = n
-
-abbrev pub toDepth : Conversion → ℕ
-toDepth (FromSrgb n) = n
-toDepth (ToSrgb n) = n
-toDepth (ChangeDepth n m) = m
-toDepth (ToLumaChroma n) = n
-toDepth (FromLumaChroma n) = n
-
-pub record Named (c : Conversion) (from to : Depth) : Type 0 where
-  pub from-is : fromDepth c ≡ bits from
-  pub to-is : toDepth c ≡ bits to
-
--- What is offered for a conversion: its two depths, or nothing.
-abbrev pub Offering : Conversion → Offers → Type 0
-Offering c (Depths from to) = Named c from to
-Offering c NotOffered = offers c ≡ false
-
--- Lengths that neither 10 nor 11 refuses.
-pub record Fit (c : Conversion) (src dst : List ℕ) : Type 0 where
-  pub whole : length src % pixelSize (wideForm (source c)) ≡ 0
-  pub room : length dst ≡ needed c src
-
--- Three samples as a pixel, and what a rule does to it.
-abbrev pub pixelIn : Three → Pixel
-pixelIn t = (t .a, t .b, t .c)
-
+-- What a rule does to a pixel.
 abbrev pub pixelApplied : PixelRule → Pixel → Pixel
-pixelApplied (rule.ToLumaChroma d) = lumaChromaOf (bits d)
-pixelApplied (rule.ToRgb d) = rgbOf (bits d)
+pixelApplied (rule.ToLumaChroma d) = toLumaChroma (bits d)
+pixelApplied (rule.ToRgb d) = toRgb (bits d)
+
+-- Whether a loop reads wide samples, whether it writes them, and what it writes.
+abbrev pub readsWide : Work → Bool
+readsWide (Widen line) = false
+readsWide (Narrow cut) = true
+readsWide (Scale line) = true
+readsWide (Drop shift) = true
+readsWide (Pixels rule) = true
+
+abbrev pub writesWide : Work → Bool
+writesWide (Widen line) = true
+writesWide (Narrow cut) = false
+writesWide (Scale line) = true
+writesWide (Drop shift) = true
+writesWide (Pixels rule) = true
+
+abbrev pub made : Work → List ℕ → List ℕ
+made (Widen line) src = bytesOf true (map (applied (sample.Affine line)) (samplesOf false src))
+made (Narrow cut) src = bytesOf false (map (applied (sample.ToEight cut)) (samplesOf true src))
+made (Scale line) src = bytesOf true (map (applied (sample.Affine line)) (samplesOf true src))
+made (Drop shift) src = bytesOf true (map (applied (sample.Drop shift)) (samplesOf true src))
+made (Pixels rule) src = write true (map (pixelApplied rule) (read true src))
+
+-- A loop that changes the depth of each code.
+pub record Changes (from to : Depth) (work : Work) : Type 0 where
+  pub reads : readsWide work ≡ true
+  pub writes : writesWide work ≡ true
+  pub makes : (src : List ℕ) → made work src ≡ bytesOf true (map (changeDepth (bits from) (bits to)) (samplesOf true src))
+
+-- A plan of a conversion: what its source may be, and a loop that does it.
+pub record Plans (c : Conversion) (coding : Coding) (work : Work) : Type 0 where
+  pub offered : offers c ≡ true
+  pub coding-is : codingOf (source c) ≡ coding
+  pub reads : wideCoding coding ≡ readsWide work
+  pub writes : wideForm (target c) ≡ writesWide work
+  pub makes : (src : List ℕ) → length src % pixelSize (wideCoding coding) ≡ 0 → made work src ≡ converted c src
+
+abbrev pub Planned : Conversion → Plan → Type 0
+Planned c (Run coding work) = Plans c coding work
+Planned c NotOffered = offers c ≡ false

@@ -2,9 +2,24 @@
 -- Assumes nothing.
 use Prim.Native.Nat.{ℕ}
 use mathlib.Core.List.{List}
+use Rattle.refusal.specs.declared.Checked.{Checked}
+use Rattle.refusal.specs.declared.Checked.the-variants.{Sound, Faulty}
 use Rattle.refusal.specs.declared.Answer.{Answer}
 use Rattle.refusal.specs.declared.Answer.the-variants.{Done, Refused, RefusedAt}
 use Rattle.refusal.specs.Refusals.{numberOf}
+
+-- What a check finds: nothing wrong, or a refusal by its number; and the first fault of two checks.
+pub data Verdict : Type 0 where
+  sound : Verdict
+  faulty : ℕ → Verdict
+
+abbrev pub verdict : Checked → Verdict
+verdict Sound = sound
+verdict (Faulty r) = faulty (numberOf r)
+
+abbrev pub orElse : Verdict → Verdict → Verdict
+orElse sound next = next
+orElse (faulty number) next = faulty number
 
 -- Accepted, with what the operation gives; refused, with the number; refused, with the number and the place.
 pub data Said : Type 0 where

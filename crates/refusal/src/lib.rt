@@ -61,6 +61,12 @@ pub fn number(refusal: Refusal) -> u8
     }
 }
 
+// What a check finds: nothing wrong, or why something is refused.
+pub enum Checked {
+    Sound,
+    Faulty(Refusal),
+}
+
 // What an operation on buffers answers.
 pub enum Answer {
     // Accepted: the count or the length that the operation gives.

@@ -2,23 +2,25 @@
 -- Assumes nothing.
 use Prim.Native.Nat.{ℕ, _≤_, _<_}
 use mathlib.Core.Path.{_≡_, refl, sym, ap, _∙_}
-use mathlib.Core.Bool.{true, false, false≢true}
+use mathlib.Core.Bool.{Bool, true, false≢true}
 use mathlib.Core.List.{List, map}
 use native.Mathlib.Omega.{arith}
 use native.Mathlib.Nat.{mul-mod-right}
-use borrow.Author.Tests.{eq-eqb}
 use lib.ListN.{length, getD, length-map, List·getD-map}
 use Rattle.refusal.specs.Answers.{Said, accepted, leaves}
-use Rattle.samples.specs.Samples.{pixelSize, Pixel, read}
+use Rattle.samples.specs.declared.Pixel.{Pixel}
+use Rattle.samples.specs.Samples.{pixelSize, noPixel, read}
+use Rattle.samples.specs.Faults.{samplesSay, sourceSays}
 use Rattle.samples.proofs.Buffers.{length-read, length-write, pixels-in-size, Fits, written-at}
-use Rattle.samples.proofs.Judging.{SoundPixel, sound-pixels}
+use Rattle.samples.proofs.Judging.{SoundPixel, Sounds, sound-pixels}
+use Rattle.samples.proofs.Order.{says-samples}
 use Rattle.esrgb.specs.Depths.{offered, greatest}
 use Rattle.esrgb.proofs.Scale.{scale-of}
 use Rattle.esrgb.proofs.Eight.{from-srgb-code, to-srgb-byte}
 use Rattle.picture.specs.declared.Conversion.{Conversion}
 use Rattle.picture.specs.declared.Conversion.the-variants.{FromSrgb, ToSrgb, ToLumaChroma, FromLumaChroma}
-use Rattle.picture.specs.Forms.{Form, srgb, esrgb, lumaChroma, bitsOf, hasChroma, wideForm, pixelsIn, source, target, offersForm}
-use Rattle.picture.specs.Convert.{pixelOf, needed, sourceSays, convertSays, converted, convertBytes}
+use Rattle.picture.specs.Forms.{Form, srgb, esrgb, lumaChroma, bitsOf, codingOf, wideForm, pixelsIn, source, target, offersForm}
+use Rattle.picture.specs.Convert.{pixelOf, needed, converted}
 use Rattle.roundtrip.specs.Pictures.{first, second, third, pixelAt, Picture}
 use Rattle.roundtrip.specs.Calls.{Call}
 use Rattle.roundtrip.proofs.Pixel.{Codes, channel-of-each, ycc-codes, ycc-chroma, back-codes}
@@ -26,8 +28,7 @@ use Rattle.roundtrip.proofs.Pixel.{Codes, channel-of-each, ycc-codes, y
 -- A picture with no sample at fault: of luma and chroma, no chroma is 0 either.
 pub record Sound (form : Form) (bytes : List ℕ) : Type 0 where
   pub picture : Picture form bytes
-  pub chroma :
-      hasChroma form ≡ true → (j : ℕ) → j < pixelsIn form bytes → (1 ≤ pixelAt form bytes j .1) × (1 ≤ pixelAt form bytes j .2)
+  pub sounds : (j : ℕ) → j < pixelsIn form bytes → Sounds (codingOf form) (pixelAt form bytes j)
 
 -- What a call makes of it.
 pub record Went (c : Conversion) (src after : List ℕ) (answer : Said) : Type 0 where
@@ -40,27 +41,16 @@ pub record Went (c : Conversion) (src after : List ℕ) (answer : Said) : Type 0
 two-bytes-fit : (n : ℕ) → offered n ≡ true → (p : Pixel) → Codes n p → Fits true p
 two-bytes-fit n o p h = omega (arith, scale-of n o, h first, h second, h third)
 
+-- A pixel of codes whose chroma is not 0 is sound.
+sound-pixel : (n : ℕ) {chroma : Bool} {p : Pixel} → Codes n p → (chroma ≡ true → (1 ≤ p .second) × (1 ≤ p .third)) → SoundPixel chroma (greatest n) p
+sound-pixel n h nonzero = record { first = omega (arith, h first); second = omega (arith, h second); third = omega (arith, h third); nonzero = nonzero }
+
 fits : (form : Form) → offersForm form ≡ true → (p : Pixel) → Codes (bitsOf form) p → Fits (wideForm form) p
 fits srgb o p h = (h first, h second, h third)
 fits (esrgb n) o p h = two-bytes-fit n o p h
 fits (lumaChroma n) o p h = two-bytes-fit n o p h
 
-sound-pixel :
-    (form : Form) (bytes : List ℕ) → Sound form bytes → (j : ℕ) → j < pixelsIn form bytes
-    → SoundPixel (hasChroma form) (greatest (bitsOf form)) (pixelAt form bytes j)
-sound-pixel form bytes s j h = record {
-  first = omega (arith, s .picture .codes j h first);
-  second = omega (arith, s .picture .codes j h second);
-  third = omega (arith, s .picture .codes j h third);
-  nonzero = λ e. s .chroma e j h;
-}
-
 module _ (c : Conversion) (src : List ℕ) where
-  no-fault : Sound (source c) src → sourceSays c src ≡ accepted (pixelsIn (source c) src)
-  no-fault s =
-      sound-pixels (wideForm (source c)) (hasChroma (source c)) (greatest (bitsOf (source c))) _ (0, 0, 0) src (s .picture .whole)
-      (sound-pixel (source c) src s)
-
   length-converted : length (converted c src) ≡ needed c src
   unfolding converted
   length-converted = simp (length-write, length-map, length-read)
@@ -71,7 +61,7 @@ module _ (c : Conversion) (src : List ℕ) where
   unfolding converted
   converted-at j h f =
       let ps : List Pixel = read (wideForm (source c)) src in
-      let same : getD (map (pixelOf c) ps) j (pixelOf c (0, 0, 0)) ≡ pixelOf c (getD ps j (0, 0, 0)) = List·getD-map (pixelOf c) ps j (0, 0, 0) in
+      let same : getD (map (pixelOf c) ps) j (pixelOf c noPixel) ≡ pixelOf c (getD ps j noPixel) = List·getD-map (pixelOf c) ps j noPixel in
       written-at (wideForm (target c)) (map (pixelOf c) ps) j _ _ (simp (length-map, length-read) h) (rw same f) ∙ same
 
 module _ {c : Conversion} {src before after : List ℕ} {answer : Said}
@@ -79,13 +69,14 @@ module _ {c : Conversion} {src before after : List ℕ} {answer : Said}
     (codes : (j : ℕ) → j < pixelsIn (source c) src → Codes (bitsOf (target c)) (pixelOf c (pixelAt (source c) src j)))
     (call : Call c src before after answer) where
   accepts : answer ≡ accepted (pixelsIn (source c) src)
-  unfolding convertSays
+  unfolding sourceSays
   accepts =
       call .called .says
-      ∙ simp (from, to, sound .picture .whole, eq-eqb (length before) (needed c src) (call .room), no-fault c src sound)
+      ∙ rw (from, to)
+      (says-samples (wideForm (source c)) (wideForm (target c)) (length src) (length before) _ (sound .picture .whole) (call .room)
+      ∙ sound-pixels (codingOf (source c)) _ src (sound .picture .whole) (sound .sounds))
 
   after-is : after ≡ converted c src
-  unfolding convertBytes
   after-is = call .called .bytes ∙ ap (λ a. leaves a (converted c src) before) (sym (call .called .says) ∙ accepts)
 
   size : length after ≡ needed c src
@@ -111,19 +102,19 @@ module _ {c : Conversion} {src before after : List ℕ} {answer : Said}
   }
 
 -- ---- the four conversions of both runs
-no-chroma : {form : Form} {bytes : List ℕ} → hasChroma form ≡ false → Picture form bytes → Sound form bytes
-no-chroma z p = record { picture = p; chroma = λ e. absurd (false≢true (sym z ∙ e)) }
+no-fault : {n : ℕ} {src : List ℕ} → Picture (esrgb n) src → Sound (esrgb n) src
+no-fault {n} p = record { picture = p; sounds = λ j h. sound-pixel n (p .codes j h) (λ e. absurd (false≢true e)) }
 
 module _ {n : ℕ} (o : offered n ≡ true) {src before after : List ℕ} {answer : Said} where
   pub from-srgb : Picture srgb src → Call (FromSrgb n) src before after answer → Went (FromSrgb n) src after answer
   from-srgb p =
-      goes refl o (no-chroma refl p) (λ j h k. rw channel-of-each (from-srgb-code n _ (scale-of n o) (p .codes j h k)))
+      goes refl o (record { picture = p; sounds = λ j h. tt }) (λ j h k. rw channel-of-each (from-srgb-code n _ (scale-of n o) (p .codes j h k)))
 
   pub to-srgb : Picture (esrgb n) src → Call (ToSrgb n) src before after answer → Went (ToSrgb n) src after answer
-  to-srgb p = goes o refl (no-chroma refl p) (λ j h k. rw channel-of-each (to-srgb-byte n _))
+  to-srgb p = goes o refl (no-fault p) (λ j h k. rw channel-of-each (to-srgb-byte n _))
 
   pub to-ycc : Picture (esrgb n) src → Call (ToLumaChroma n) src before after answer → Went (ToLumaChroma n) src after answer
-  to-ycc p = goes o o (no-chroma refl p) (λ j h. ycc-codes n (scale-of n o) _ (p .codes j h))
+  to-ycc p = goes o o (no-fault p) (λ j h. ycc-codes n (scale-of n o) _ (p .codes j h))
 
   pub from-ycc : Sound (lumaChroma n) src → Call (FromLumaChroma n) src before after answer → Went (FromLumaChroma n) src after answer
   from-ycc s = goes o o s (λ j h. back-codes n (scale-of n o) _)
@@ -134,7 +125,7 @@ pub ycc-sound :
     → Sound (lumaChroma n) after
 ycc-sound {n} {src} o p there = record {
   picture = there .picture;
-  chroma = λ e j h.
+  sounds = λ j h.
       let i : j < pixelsIn (esrgb n) src = rw (there .count) at h in
-      rw (there .pixels j i) (ycc-chroma n (scale-of n o) _ (p .codes j i));
+      sound-pixel n (there .picture .codes j h) (λ e. rw (there .pixels j i) (ycc-chroma n (scale-of n o) _ (p .codes j i)));
 }

@@ -7,7 +7,7 @@ use native.Mathlib.Omega.{arith}
 use native.Mathlib.Nat.{div-add-mod}
 use lib.ListN.{length}
 use Rattle.refusal.specs.Answers.{Said, accepted}
-use Rattle.samples.specs.Samples.{pixelSize}
+use Rattle.samples.specs.Samples.{pixelSize, noPixel}
 use Rattle.samples.proofs.Buffers.{same-pixels}
 use Rattle.esrgb.specs.Codes.{fromSrgb, toSrgb}
 use Rattle.esrgb.proofs.Scale.{Scale, scale-of, deep-step}
@@ -15,7 +15,7 @@ use Rattle.esrgb.proofs.Eight.{to-srgb-exact}
 use Rattle.lumachroma.specs.Near.{Near}
 use Rattle.picture.specs.declared.Conversion.the-variants.{FromSrgb, ToSrgb, ToLumaChroma, FromLumaChroma}
 use Rattle.picture.specs.Forms.{Form, srgb, esrgb, wideForm, pixelsIn}
-use Rattle.picture.specs.Convert.{lumaChromaOf, rgbOf}
+use Rattle.lumachroma.specs.LumaChroma.{toLumaChroma, toRgb}
 use Rattle.roundtrip.specs.Pictures.{Channel, channel, pixelAt, Picture}
 use Rattle.roundtrip.specs.Agreement.{RoundTrip, BackToEight, Demand3}
 use Rattle.roundtrip.proofs.Pixel.{by-channels, channel-of-each, kept, near-exact, one-greater}
@@ -32,13 +32,13 @@ same-length {form} {xs} {ys} p q h =
 same-picture :
     {xs ys : List ℕ} → Picture srgb xs → Picture srgb ys → pixelsIn srgb xs ≡ pixelsIn srgb ys
     → ((j : ℕ) → j < pixelsIn srgb ys → (k : Channel) → channel k (pixelAt srgb xs j) ≡ channel k (pixelAt srgb ys j)) → xs ≡ ys
-same-picture p q count h = same-pixels (0, 0, 0) _ _ (p .whole) (same-length p q count) (λ j i. by-channels _ _ (h j (rw count at i)))
+same-picture p q count h = same-pixels noPixel _ _ (p .whole) (same-length p q count) (λ j i. by-channels _ _ (h j (rw count at i)))
 
 -- ---- the round trip
 module _ {n : ℕ} (s : Scale n) {codes ycc back : List ℕ} {a₁ a₂ : Said} (p : Picture (esrgb n) codes)
     (there : Went (ToLumaChroma n) codes ycc a₁) (again : Went (FromLumaChroma n) ycc back a₂) where
-  back-at : (j : ℕ) → j < pixelsIn (esrgb n) codes → pixelAt (esrgb n) back j ≡ rgbOf n (lumaChromaOf n (pixelAt (esrgb n) codes j))
-  back-at j h = again .pixels j (rw (there .count) h) ∙ ap (rgbOf n) (there .pixels j h)
+  back-at : (j : ℕ) → j < pixelsIn (esrgb n) codes → pixelAt (esrgb n) back j ≡ toRgb n (toLumaChroma n (pixelAt (esrgb n) codes j))
+  back-at j h = again .pixels j (rw (there .count) h) ∙ ap (toRgb n) (there .pixels j h)
 
   round-trip : RoundTrip n codes ycc back a₁ a₂
   round-trip = record {

@@ -4,7 +4,8 @@ use Prim.Native.Nat.{ℕ, _+_, _^_, _≤_, _<_, min}
 use mathlib.Core.Path.{_≡_, refl}
 use native.Mathlib.Omega.{arith}
 use native.Mathlib.Decide.{decLt}
-use Rattle.samples.specs.Samples.{Pixel}
+use Rattle.samples.specs.declared.Pixel.{Pixel}
+use Rattle.samples.specs.Samples.{pixel}
 use Rattle.esrgb.specs.Depths.{step}
 use Rattle.esrgb.specs.Codes.{fromSrgb, toSrgb}
 use Rattle.esrgb.proofs.Scale.{Scale}
@@ -12,7 +13,8 @@ use Rattle.esrgb.proofs.Eight.{from-srgb-next, to-srgb-nearest}
 use Rattle.lumachroma.specs.Near.{Near}
 use Rattle.lumachroma.proofs.Pixel.{luma-bounds, blue-chroma-bounds, red-chroma-bounds, red-near, green-near, blue-near}
 use Rattle.lumachroma.proofs.Pixel.{grey-blue-chroma, grey-red-chroma, grey-red, grey-green, grey-blue, red-code, green-code, blue-code}
-use Rattle.picture.specs.Convert.{each, lumaChromaOf, rgbOf}
+use Rattle.lumachroma.specs.LumaChroma.{toLumaChroma, toRgb}
+use Rattle.picture.specs.Convert.{each}
 use Rattle.roundtrip.specs.Pictures.{Channel, first, second, third, channel}
 use Rattle.roundtrip.specs.Agreement.{Kept, OneGreater}
 
@@ -21,7 +23,7 @@ abbrev pub Codes : ℕ → Pixel → Type 0
 Codes bits p = (k : Channel) → channel k p < 2 ^ bits
 
 pub by-channels : (p q : Pixel) → ((k : Channel) → channel k p ≡ channel k q) → p ≡ q
-by-channels p q h = λ i. (h first i, h second i, h third i)
+by-channels p q h = λ i. pixel (h first i) (h second i) (h third i)
 
 pub channel-of-each : (f : ℕ → ℕ) (p : Pixel) (k : Channel) → channel k (each f p) ≡ f (channel k p)
 channel-of-each f p first = refl
@@ -29,33 +31,33 @@ channel-of-each f p second = refl
 channel-of-each f p third = refl
 
 -- ---- to luma and chroma, and back
-pub back-codes : (n : ℕ) (s : Scale n) (p : Pixel) → Codes n (rgbOf n p)
-back-codes n s p first = red-code n (p .0) (p .1) (p .2) s
-back-codes n s p second = green-code n (p .0) (p .1) (p .2) s
-back-codes n s p third = blue-code n (p .0) (p .1) (p .2) s
+pub back-codes : (n : ℕ) (s : Scale n) (p : Pixel) → Codes n (toRgb n p)
+back-codes n s p first = red-code n (p .first) (p .second) (p .third) s
+back-codes n s p second = green-code n (p .first) (p .second) (p .third) s
+back-codes n s p third = blue-code n (p .first) (p .second) (p .third) s
 
 module _ (n : ℕ) (s : Scale n) (p : Pixel) (h : Codes n p) where
-  pub ycc-codes : Codes n (lumaChromaOf n p)
+  pub ycc-codes : Codes n (toLumaChroma n p)
   ycc-codes first = luma-bounds n _ _ _ s (h first) (h second) (h third) .most
   ycc-codes second = blue-chroma-bounds n _ _ _ s (h first) (h second) (h third) .most
   ycc-codes third = red-chroma-bounds n _ _ _ s (h first) (h second) (h third) .most
 
-  pub ycc-chroma : (1 ≤ lumaChromaOf n p .1) × (1 ≤ lumaChromaOf n p .2)
+  pub ycc-chroma : (1 ≤ toLumaChroma n p .second) × (1 ≤ toLumaChroma n p .third)
   ycc-chroma =
       (blue-chroma-bounds n _ _ _ s (h first) (h second) (h third) .least, red-chroma-bounds n _ _ _ s (h first) (h second) (h third) .least)
 
-  near : (k : Channel) → Near (channel k p) (channel k (rgbOf n (lumaChromaOf n p)))
+  near : (k : Channel) → Near (channel k p) (channel k (toRgb n (toLumaChroma n p)))
   near first = red-near n _ _ _ s (h first) (h second) (h third)
   near second = green-near n _ _ _ s (h first) (h second) (h third)
   near third = blue-near n _ _ _ s (h first) (h second) (h third)
 
-  module _ (rg : p .0 ≡ p .1) (gb : p .1 ≡ p .2) where
-    grey-back : (k : Channel) → channel k (rgbOf n (lumaChromaOf n p)) ≡ channel k p
+  module _ (rg : p .first ≡ p .second) (gb : p .second ≡ p .third) where
+    grey-back : (k : Channel) → channel k (toRgb n (toLumaChroma n p)) ≡ channel k p
     grey-back first = grey-red n _ _ _ s (h first) (h second) (h third) rg gb
     grey-back second = grey-green n _ _ _ s (h first) (h second) (h third) rg gb
     grey-back third = grey-blue n _ _ _ s (h first) (h second) (h third) rg gb
 
-  pub kept : Kept n p (lumaChromaOf n p) (rgbOf n (lumaChromaOf n p))
+  pub kept : Kept n p (toLumaChroma n p) (toRgb n (toLumaChroma n p))
   kept = record {
     near = near;
     grey = λ rg gb. (

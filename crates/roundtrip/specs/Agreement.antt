@@ -8,7 +8,7 @@ use mathlib.Core.Logic.{_↔_}
 use mathlib.Core.List.{List}
 use lib.ListN.{length}
 use Rattle.refusal.specs.Answers.{Said, accepted}
-use Rattle.samples.specs.Samples.{Pixel}
+use Rattle.samples.specs.declared.Pixel.{Pixel}
 use Rattle.esrgb.specs.Depths.{offered, middle}
 use Rattle.lumachroma.specs.Near.{Near}
 use Rattle.picture.specs.declared.Conversion.the-variants.{FromSrgb, ToSrgb, ToLumaChroma, FromLumaChroma}
@@ -19,7 +19,7 @@ use Rattle.roundtrip.specs.Calls.{Call}
 -- Rule 5.1, of a pixel of codes e, its luma and chroma s, and what comes back, b.
 pub record Kept (n : ℕ) (e s b : Pixel) : Type 0 where
   pub near : (k : Channel) → Near (channel k e) (channel k b)
-  pub grey : e .0 ≡ e .1 → e .1 ≡ e .2 → (b ≡ e) × (s .1 ≡ middle n) × (s .2 ≡ middle n)
+  pub grey : e .first ≡ e .second → e .second ≡ e .third → (b ≡ e) × (s .second ≡ middle n) × (s .third ≡ middle n)
 
 -- Rule 5.1, of a whole picture of codes and the answers of the two calls.
 pub record RoundTrip (n : ℕ) (codes ycc back : List ℕ) (there-says back-says : Said) : Type 0 where

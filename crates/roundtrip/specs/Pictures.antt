@@ -4,7 +4,8 @@ use Prim.Native.Nat.{ℕ, _%_, _^_, _<_}
 use mathlib.Core.Path.{_≡_}
 use mathlib.Core.List.{List}
 use lib.ListN.{length, getD}
-use Rattle.samples.specs.Samples.{pixelSize, Pixel, read}
+use Rattle.samples.specs.declared.Pixel.{Pixel}
+use Rattle.samples.specs.Samples.{pixelSize, noPixel, read}
 use Rattle.picture.specs.Forms.{Form, bitsOf, wideForm, pixelsIn}
 
 -- A channel: the first, second or third sample of a pixel.
@@ -12,13 +13,13 @@ pub data Channel : Type 0 where
   first second third : Channel
 
 abbrev pub channel : Channel → Pixel → ℕ
-channel first p = p .0
-channel second p = p .1
-channel third p = p .2
+channel first p = p .first
+channel second p = p .second
+channel third p = p .third
 
 -- The j-th pixel of a buffer.
 abbrev pub pixelAt : Form → List ℕ → ℕ → Pixel
-pixelAt form bytes j = getD (read (wideForm form) bytes) j (0, 0, 0)
+pixelAt form bytes j = getD (read (wideForm form) bytes) j noPixel
 
 -- Whole pixels, perhaps none, with each sample in the range of the form's bits; of sRGB every byte is. Luma and chroma are held to
 -- their depth in the same way.

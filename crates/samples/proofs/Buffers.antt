@@ -9,7 +9,8 @@ use native.Mathlib.Nat.{mod-eq-of-lt}
 use lib.ListN.{length, getD}
 use lib.Seq.{ext-getD}
 use Rattle.numbers.proofs.Bytes.{held}
-use Rattle.samples.specs.Samples.{place, pixelSize, samplesOf, bytesOf, Pixel, pixelsOf, samplesIn, read, write}
+use Rattle.samples.specs.declared.Pixel.{Pixel}
+use Rattle.samples.specs.Samples.{place, pixelSize, samplesOf, bytesOf, pixel, pixelsOf, samplesIn, read, write}
 use Rattle.samples.proofs.Reading.{length-samples, length-pixels}
 
 -- ---- lengths
@@ -42,14 +43,14 @@ limit true = 65536
 limit false = 256
 
 abbrev pub Fits : Bool → Pixel → Type 0
-Fits wide p = (p .0 < limit wide) × (p .1 < limit wide) × (p .2 < limit wide)
+Fits wide p = (p .first < limit wide) × (p .second < limit wide) × (p .third < limit wide)
 
 pub written-at :
     (wide : Bool) (ps : List Pixel) (j : ℕ) (d e : Pixel) → j < length ps → Fits wide (getD ps j d)
     → getD (read wide (write wide ps)) j e ≡ getD ps j d
 written-at wide [] j d e h f = absurd (omega arith)
-written-at true (p ∷ ps) zero d e h f = λ i. (held 2 (p .0) (f .0) i, held 2 (p .1) (f .1) i, held 2 (p .2) (f .2) i)
-written-at false (p ∷ ps) zero d e h f = λ i. (mod-eq-of-lt (f .0) i, mod-eq-of-lt (f .1) i, mod-eq-of-lt (f .2) i)
+written-at true (p ∷ ps) zero d e h f = λ i. pixel (held 2 (p .first) (f .0) i) (held 2 (p .second) (f .1) i) (held 2 (p .third) (f .2) i)
+written-at false (p ∷ ps) zero d e h f = λ i. pixel (mod-eq-of-lt (f .0) i) (mod-eq-of-lt (f .1) i) (mod-eq-of-lt (f .2) i)
 written-at true (p ∷ ps) (suc j) d e h f = written-at true ps j d e (omega arith) f
 written-at false (p ∷ ps) (suc j) d e h f = written-at false ps j d e (omega arith) f
 

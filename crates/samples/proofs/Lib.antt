@@ -1,3 +1,4 @@
 pub mod Reading
 pub mod Buffers
 pub mod Judging
+pub mod Order

@@ -1,13 +1,13 @@
 -- How many samples and pixels a buffer has, and where each stands.
 -- Assumes nothing.
-use Prim.Native.Nat.{ℕ, zero, suc, _+_, _*_, _/_, _<_}
+use Prim.Native.Nat.{ℕ, zero, suc, _+_, _*_, _/_, _≤_, _<_}
 use mathlib.Core.Path.{_≡_, refl}
 use mathlib.Core.Bool.{Bool, true, false}
 use mathlib.Core.List.{List, [], _∷_}
 use native.Mathlib.Omega.{arith}
-use lib.ListN.{length, getD}
+use lib.ListN.{length, getD, List·getD-eq-default}
 use Rattle.numbers.specs.Bytes.{littleEndian}
-use Rattle.samples.specs.Samples.{sampleCount, samplesOf, twoByTwo, pixelsOf}
+use Rattle.samples.specs.Samples.{sampleCount, samplesOf, twoByTwo, pixel, noPixel, pixelsOf}
 
 pub length-two : (bytes : List ℕ) → length (twoByTwo bytes) ≡ length bytes / 2
 length-two [] = refl
@@ -17,6 +17,9 @@ length-two (low ∷ high ∷ rest) = omega (arith, length-two rest)
 pub length-samples : (wide : Bool) (bytes : List ℕ) → length (samplesOf wide bytes) ≡ sampleCount wide (length bytes)
 length-samples true bytes = length-two bytes
 length-samples false bytes = refl
+
+pub behind : (wide : Bool) (bytes : List ℕ) (k : ℕ) → sampleCount wide (length bytes) ≤ k → getD (samplesOf wide bytes) k 0 ≡ 0
+behind wide bytes k h = List·getD-eq-default (samplesOf wide bytes) 0 (rw (length-samples wide bytes) h)
 
 pub length-pixels : (xs : List ℕ) → length (pixelsOf xs) ≡ length xs / 3
 length-pixels [] = refl
@@ -36,7 +39,7 @@ two-at (low ∷ high ∷ rest) (suc k) h =
 
 pub pixel-at :
     (xs : List ℕ) (j : ℕ) → 3 * j + 2 < length xs
-    → getD (pixelsOf xs) j (0, 0, 0) ≡ (getD xs (3 * j) 0, getD xs (3 * j + 1) 0, getD xs (3 * j + 2) 0)
+    → getD (pixelsOf xs) j noPixel ≡ pixel (getD xs (3 * j) 0) (getD xs (3 * j + 1) 0) (getD xs (3 * j + 2) 0)
 pixel-at [] j h = absurd (omega arith)
 pixel-at (a ∷ []) j h = absurd (omega arith)
 pixel-at (a ∷ b ∷ []) j h = absurd (omega arith)

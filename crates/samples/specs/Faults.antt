@@ -1,39 +1,55 @@
--- The first sample at fault, and the order of refusals (rules 4.2 and 4.3).
+-- What an operation says of a source and of the room for its result: the order of refusals, and the first sample at fault (rules 4.2 and
+-- 4.3).
 -- Assumes nothing.
-use Prim.Native.Nat.{ℕ, _+_, _%_}
-use mathlib.Core.Bool.{Bool, cond, not, _&&_}
+use Prim.Native.Nat.{ℕ, _+_, _*_, _/_, _%_}
+use mathlib.Core.Path.{_≡_}
+use mathlib.Core.Bool.{Bool, true, false, cond, not, _&&_}
 use mathlib.Core.List.{List, [], _∷_}
 use lib.Dec.{eqb, ltb}
-use Rattle.refusal.specs.Refusals.{numberOf}
-use Rattle.refusal.specs.Answers.{Said, refused, refusedAt}
-use Rattle.samples.specs.declared.Finding.{Finding}
-use Rattle.samples.specs.declared.Finding.the-variants.{Sound, Fault}
-use Rattle.samples.specs.Samples.{place}
+use lib.ListN.{length}
+use Rattle.refusal.specs.Answers.{Verdict, sound, faulty, Said, accepted, refused, refusedAt}
+use Rattle.samples.specs.declared.Coding.{Coding}
+use Rattle.samples.specs.declared.Coding.the-variants.{Bytes, Codes}
+use Rattle.samples.specs.Samples.{place, pixelSize, samplesOf}
 
--- One sample is sound, or refused by a number.
-pub data Verdict : Type 0 where
-  sound : Verdict
-  faulty : ℕ → Verdict
-
-abbrev pub verdict : Finding → Verdict
-verdict Sound = sound
-verdict (Fault r) = faulty (numberOf r)
+-- Rule 3.1: codes have more than 8 bits.
+abbrev pub wideCoding : Coding → Bool
+wideCoding Bytes = false
+wideCoding (Codes greatest chroma) = true
 
 -- Rule 4.3, of sample x, which is the k-th of its buffer: 12 above the greatest code, 13 for a chroma of 0. Of a pixel's three samples
--- the first is luma and the other two are chroma.
-unfoldable pub fault : Bool → ℕ → ℕ → ℕ → Verdict
-fault chroma greatest k x = cond (ltb greatest x) (faulty 12) (cond (chroma && (not (eqb (k % 3) 0) && eqb x 0)) (faulty 13) sound)
+-- the first is luma and the other two are chroma. A byte is never at fault.
+unfoldable pub fault : Coding → ℕ → ℕ → Verdict
+fault Bytes k x = sound
+fault (Codes greatest chroma) k x = cond (ltb greatest x) (faulty 12) (cond (chroma && (not (eqb (k % 3) 0) && eqb x 0)) (faulty 13) sound)
 
--- Rule 4.3, of samples xs, the first of which is the k-th: the first fault and its place, or `done` if there is none.
 abbrev pub decides : Verdict → ℕ → Said → Said
 decides sound at rest = rest
 decides (faulty number) at rest = refusedAt number at
 
-unfoldable pub judged : Bool → Bool → ℕ → Said → ℕ → List ℕ → Said
-judged wide chroma greatest done k [] = done
-judged wide chroma greatest done k (x ∷ xs) =
-    decides (fault chroma greatest k x) (place wide k) (judged wide chroma greatest done (k + 1) xs)
+-- Rule 4.3, of samples xs, the first of which is the k-th: the first fault and its place, or `done` if there is none.
+unfoldable pub samplesSay : Coding → Said → ℕ → List ℕ → Said
+samplesSay coding done k [] = done
+samplesSay coding done k (x ∷ xs) =
+    decides (fault coding k x) (place (wideCoding coding) k) (samplesSay coding done (k + 1) xs)
 
--- Rule 4.2, the order of Convert's refusals: depth, source, destination, samples.
-abbrev pub inOrder : Bool → Bool → Bool → Said → Said
-inOrder offered whole exact samples = cond offered (cond whole (cond exact samples (refused 11)) (refused 10)) (refused 9)
+-- Rule 4.2, the order of refusals of every operation on pictures: is the depth offered; is the source, of `len` bytes or numbers, whole
+-- pixels; has the destination the `room` for them; and then what its samples say. Samples are one or two bytes wide, from and to;
+-- light is counted in numbers, one to a sample (rule 6.7).
+abbrev pub inOrder : Bool → Bool → Bool → ℕ → ℕ → Said → Said
+inOrder offered from to len room samples =
+    cond (not offered) (refused 9)
+    (cond (not (eqb (len % pixelSize from) 0)) (refused 10)
+    (cond (not (eqb room (pixelSize to * (len / pixelSize from)))) (refused 11)
+    samples))
+
+-- Lengths that neither 10 nor 11 refuses.
+pub record Exact (from to : Bool) (len room : ℕ) : Type 0 where
+  pub whole : len % pixelSize from ≡ 0
+  pub room-is : room ≡ pixelSize to * (len / pixelSize from)
+
+-- What is said of a source in bytes, whose samples are judged: the pixel count if nothing is at fault (rule 4.5).
+unfoldable pub sourceSays : Bool → Coding → Bool → List ℕ → ℕ → Said
+sourceSays offered coding to src room =
+    inOrder offered (wideCoding coding) to (length src) room
+    (samplesSay coding (accepted (length src / pixelSize (wideCoding coding))) 0 (samplesOf (wideCoding coding) src))

@@ -5,6 +5,7 @@ use mathlib.Core.Bool.{Bool, true, false, not}
 use mathlib.Core.List.{List, [], _∷_, _++_}
 use lib.Dec.{eqb}
 use Rattle.numbers.specs.Bytes.{littleEndian, lowBytes}
+use Rattle.samples.specs.declared.Pixel.{Pixel}
 
 -- Rule 3.1: samples of 8 bits are one byte wide, all others two.
 abbrev pub isWide : ℕ → Bool
@@ -43,19 +44,23 @@ abbrev pub bytesOf : Bool → List ℕ → List ℕ
 bytesOf wide [] = []
 bytesOf wide (x ∷ xs) = sampleBytes wide x ++ bytesOf wide xs
 
--- Rule 3.2: a pixel is three samples, red, green, blue or luma, blue chroma, red chroma.
-abbrev pub Pixel : Type 0
-Pixel = ℕ × ℕ × ℕ
+-- Rule 3.2: three samples make a pixel.
+abbrev pub pixel : ℕ → ℕ → ℕ → Pixel
+pixel a b c = record { first = a; second = b; third = c }
+
+-- What stands for a pixel behind the last.
+abbrev pub noPixel : Pixel
+noPixel = pixel 0 0 0
 
 abbrev pub pixelsOf : List ℕ → List Pixel
 pixelsOf [] = []
 pixelsOf (a ∷ []) = []
 pixelsOf (a ∷ b ∷ []) = []
-pixelsOf (a ∷ b ∷ c ∷ rest) = (a, b, c) ∷ pixelsOf rest
+pixelsOf (a ∷ b ∷ c ∷ rest) = pixel a b c ∷ pixelsOf rest
 
 abbrev pub samplesIn : List Pixel → List ℕ
 samplesIn [] = []
-samplesIn (p ∷ ps) = p .0 ∷ p .1 ∷ p .2 ∷ samplesIn ps
+samplesIn (p ∷ ps) = p .first ∷ p .second ∷ p .third ∷ samplesIn ps
 
 -- A buffer read as pixels, and pixels written as a buffer.
 abbrev pub read : Bool → List ℕ → List Pixel

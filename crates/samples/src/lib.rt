@@ -1,71 +1,120 @@
-// Samples in pixel buffers: one or two bytes each, three to a pixel; and the first sample at fault.
-// It promises the refusal and the place of rule 4.3, for any buffer and any limit, and asks nothing
-// of a caller.
+// Samples in pixel buffers: one or two bytes each, three to a pixel; and what an operation says of a
+// source and of the room for its result. It promises the refusals and places of rules 4.2 and 4.3, for
+// any buffer and any limit, and asks nothing of a caller.
 use numbers::from_two;
 use refusal::Answer;
+use refusal::Checked;
 use refusal::Refusal;
 ghost use mathlib.Core.Path.{_≡_};
-ghost use mathlib.Core.Bool.{true};
-ghost use Prim.Native.Nat.{_*_, _+_, _<_};
+ghost use mathlib.Core.Bool.{true, false};
+ghost use Prim.Native.Nat.{_/_, _*_, _+_, _<_};
 ghost use lib.ListN.{length, getD};
-ghost use Rattle.refusal.specs.Answers.{said, accepted};
-ghost use Rattle.samples.specs.Samples.{sampleCount, pixelSize, twoByTwo};
-ghost use Rattle.samples.specs.Faults.{fault, judged, verdict};
+ghost use Rattle.refusal.specs.Answers.{verdict, said, accepted};
+ghost use Rattle.samples.specs.Samples.{sampleCount, pixelSize, twoByTwo, samplesOf, noPixel, read};
+ghost use Rattle.samples.specs.Faults.{fault, samplesSay, inOrder, sourceSays};
 ghost use Rattle.samples.specs.HowJudged.{leastOf, allWithin, atFault, SoundTo};
 
-// The bytes of a pixel.
+// ---- sizes
+
+// The bytes of a sample, of a pixel, and how many whole samples some bytes hold.
 pub fn pixel_size(wide: bool) -> usize
     ensures { λ r. ⌜ r ≡ pixelSize wide ⌝ }
 {
     if wide { 6 } else { 3 }
 }
 
-// How many whole samples some bytes hold.
 pub fn sample_count(wide: bool, bytes: usize) -> usize
     ensures { λ r. ⌜ r ≡ sampleCount wide bytes ⌝ }
 {
     if wide { bytes / 2 } else { bytes }
 }
 
-// What one sample shows.
-pub enum Finding {
-    Sound,
-    Fault(Refusal),
-}
-
-// Sample x, which has number k of its buffer.
-fn look_at(chroma: bool, greatest: u16, k: usize, x: u16) -> Finding
-    ensures { λ r. ⌜ verdict r ≡ fault chroma greatest k x ⌝ }
-{
-    if greatest < x {
-        return Finding::Fault(Refusal::SampleTooGreat);
-    }
-    if x != 0 {
-        return Finding::Sound;
-    }
-    if k % 3 == 0 {
-        return Finding::Sound;
-    }
-    if chroma {
-        Finding::Fault(Refusal::ChromaZero)
-    } else {
-        Finding::Sound
-    }
-}
+// ---- reading
 
 // Sample k of a buffer of two-byte samples.
-fn sample(src: &[u8], k: usize) -> u16
+fn wide_sample(src: &[u8], k: usize) -> u16
     requires { ⌜ 2 * k + 1 < length (now src) ⌝ }
     ensures { λ r. ⌜ r ≡ getD (twoByTwo (now (src .entry))) k 0 ⌝ }
 {
     from_two(src[2 * k], src[2 * k + 1])
 }
 
-// Is one of a pixel's samples at fault? One answer for the three, with no branch between them.
-fn at_fault(chroma: bool, greatest: u16, a: u16, b: u16, c: u16) -> bool
-    ensures { λ r. ⌜ r ≡ atFault chroma greatest (a, b, c) ⌝ }
+// Sample k, or 0 behind the last. In a loop that ends with the samples, the compiler leaves the test out.
+pub fn sample(src: &[u8], wide: bool, k: usize) -> u16
+    ensures { λ r. ⌜ r ≡ getD (samplesOf wide (now (src .entry))) k 0 ⌝ }
 {
-    (greatest < a) | (greatest < b) | (greatest < c) | (chroma & ((b == 0) | (c == 0)))
+    if sample_count(wide, src.len()) <= k {
+        return 0;
+    }
+    if wide {
+        wide_sample(src, k)
+    } else {
+        src[k] as u16
+    }
+}
+
+// A pixel: three samples, in the order of the buffer.
+pub struct Pixel {
+    pub first: u16,
+    pub second: u16,
+    pub third: u16,
+}
+
+// Pixel i of a buffer of two-byte samples, or zeros behind the last.
+pub fn pixel_at(src: &[u8], i: usize) -> Pixel
+    ensures { λ r. ⌜ r ≡ getD (read true (now (src .entry))) i noPixel ⌝ }
+{
+    if src.len() / 6 <= i {
+        return Pixel {
+            first: 0,
+            second: 0,
+            third: 0,
+        };
+    }
+    let k = 3 * i;
+    Pixel {
+        first: wide_sample(src, k),
+        second: wide_sample(src, k + 1),
+        third: wide_sample(src, k + 2),
+    }
+}
+
+// ---- the first sample at fault
+
+// What the samples of a source may be: any bytes, or codes, where a chroma of 0 may be at fault.
+pub enum Coding {
+    Bytes,
+    Codes { greatest: u16, chroma: bool },
+}
+
+// Sample x, the k-th of a buffer of codes.
+fn look_at(chroma: bool, greatest: u16, k: usize, x: u16) -> Checked
+    ensures { λ r. ⌜ verdict r ≡ fault (Coding.Codes greatest chroma) k x ⌝ }
+{
+    if greatest < x {
+        return Checked::Faulty(Refusal::SampleTooGreat);
+    }
+    if x != 0 {
+        return Checked::Sound;
+    }
+    if k % 3 == 0 {
+        return Checked::Sound;
+    }
+    if chroma {
+        Checked::Faulty(Refusal::ChromaZero)
+    } else {
+        Checked::Sound
+    }
+}
+
+// Is one of a pixel's samples at fault? One answer for the three, with no branch between them.
+fn at_fault(chroma: bool, greatest: u16, p: Pixel) -> bool
+    ensures { λ r. ⌜ r ≡ atFault chroma greatest p ⌝ }
+{
+    (greatest < p.first)
+        | (greatest < p.second)
+        | (greatest < p.third)
+        | (chroma & ((p.second == 0) | (p.third == 0)))
 }
 
 // The number of the first sample of the first pixel at fault or, if there is none, of the sample behind
@@ -76,16 +125,8 @@ fn sound_start(chroma: bool, greatest: u16, src: &[u8]) -> usize
     let end = src.len() / 6;
     let mut i = 0;
     while i < end {
-        let k = 3 * i;
-        let faulty = at_fault(
-            chroma,
-            greatest,
-            sample(src, k),
-            sample(src, k + 1),
-            sample(src, k + 2),
-        );
-        if faulty {
-            return k;
+        if at_fault(chroma, greatest, pixel_at(src, i)) {
+            return 3 * i;
         }
         i += 1;
     }
@@ -95,15 +136,15 @@ fn sound_start(chroma: bool, greatest: u16, src: &[u8]) -> usize
 // The samples from number `start` on, up to the first at fault.
 fn first_fault(chroma: bool, greatest: u16, src: &[u8], pixels: usize, start: usize) -> Answer
     requires { ⌜ SoundTo chroma greatest (twoByTwo (now src)) start ⌝ }
-    ensures { λ r. ⌜ said r ≡ judged true chroma greatest (accepted pixels) 0 (twoByTwo (now (src .entry))) ⌝ }
+    ensures { λ r. ⌜ said r ≡ samplesSay (Coding.Codes greatest chroma) (accepted pixels) 0 (twoByTwo (now (src .entry))) ⌝ }
 {
     let end = src.len() / 2;
     let mut k = start;
     while k < end {
-        let found = look_at(chroma, greatest, k, sample(src, k));
+        let found = look_at(chroma, greatest, k, wide_sample(src, k));
         match found {
-            Finding::Sound => {}
-            Finding::Fault(refusal) => {
+            Checked::Sound => {}
+            Checked::Faulty(refusal) => {
                 return Answer::RefusedAt(refusal, 2 * k);
             }
         }
@@ -128,18 +169,17 @@ fn all_within(least: u16, greatest: u16, src: &[u8]) -> bool
     let mut out = false;
     let mut k = 0;
     while k < end {
-        let x = sample(src, k);
+        let x = wide_sample(src, k);
         out = out | (x < least) | (greatest < x);
         k += 1;
     }
     !out
 }
 
-// The first fault in a buffer of two-byte samples, or the pixel count if there is none. Nearly every
-// picture is sound, and then the quick look decides. Codes of 16 bits cannot be at fault and are not
-// looked at.
-pub fn judge(chroma: bool, greatest: u16, src: &[u8], pixels: usize) -> Answer
-    ensures { λ r. ⌜ said r ≡ judged true chroma greatest (accepted pixels) 0 (twoByTwo (now (src .entry))) ⌝ }
+// The first fault in a buffer of codes, or the pixel count if there is none. Nearly every picture is
+// sound, and then the quick look decides. Codes of 16 bits cannot be at fault and are not looked at.
+fn judge(chroma: bool, greatest: u16, src: &[u8], pixels: usize) -> Answer
+    ensures { λ r. ⌜ said r ≡ samplesSay (Coding.Codes greatest chroma) (accepted pixels) 0 (twoByTwo (now (src .entry))) ⌝ }
 {
     if greatest == 65535 {
         if !chroma {
@@ -151,4 +191,43 @@ pub fn judge(chroma: bool, greatest: u16, src: &[u8], pixels: usize) -> Answer
     }
     let start = sound_start(chroma, greatest, src);
     first_fault(chroma, greatest, src, pixels, start)
+}
+
+// ---- the order of refusals
+
+// The pixel count of a source of `len` bytes or numbers, if it is whole pixels and the room for its
+// result is what they need. Quotients are compared, since a product could overflow.
+pub fn count_pixels(from: bool, to: bool, len: usize, room: usize) -> Answer
+    ensures { λ r. ⌜ said r ≡ inOrder true from to len room (accepted (len / pixelSize from)) ⌝ }
+{
+    let size = pixel_size(from);
+    if len % size != 0 {
+        return Answer::Refused(Refusal::NotWholePixels);
+    }
+    let needed = pixel_size(to);
+    if room % needed != 0 {
+        return Answer::Refused(Refusal::WrongRoom);
+    }
+    if room / needed != len / size {
+        return Answer::Refused(Refusal::WrongRoom);
+    }
+    Answer::Done(len / size)
+}
+
+// What is said of a source in bytes, for a result whose samples are wide or not, in so much room: all
+// refusals but that of a depth.
+pub fn examine(coding: Coding, to: bool, src: &[u8], room: usize) -> Answer
+    ensures { λ r. ⌜ said r ≡ sourceSays true coding to (now (src .entry)) room ⌝ }
+{
+    match coding {
+        Coding::Bytes => count_pixels(false, to, src.len(), room),
+        Coding::Codes { greatest, chroma } => {
+            let counted = count_pixels(true, to, src.len(), room);
+            match counted {
+                Answer::Done(pixels) => judge(chroma, greatest, src, pixels),
+                Answer::Refused(_) => counted,
+                Answer::RefusedAt(_, _) => counted,
+            }
+        }
+    }
 }

@@ -1,7 +1,8 @@
 -- `linear::code_to_light` meets its contract: 10 and 12 are offered, and no other depth.
 -- Assumes nothing.
 use denote.Ref.{now}
-use Rattle.linear.specs.Operations.{codesToLightSays, codesToLight}
+use Rattle.samples.specs.Faults.{sourceSays}
+use Rattle.linear.specs.Operations.{codesToLight}
 use Rattle.linear.proofs.Answering.{refuses, not-offered}
 use borrow.Author.Needs.{needs}
 use Rattle.linear.proofs.code_to_light.Statement.{statement}
@@ -26,7 +27,7 @@ returns-2 : tie.Need-returns-2
 returns-2 c = rw (c .before .before .before .match .keys2) (c .before .codes-to-light2 .ensures)
 
 returns-3 : tie.Need-returns-3
-unfolding codesToLightSays
+unfolding sourceSays
 returns-3 c =
     let a = c .before .before .args in
     refuses 9 _ (codesToLight (a .depth) (now (a .src))) (now (a .dst)) (rw (not-offered (a .depth) (c .match .rest .0 .1) (c .match .rest .1)))

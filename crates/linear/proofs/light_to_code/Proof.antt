@@ -1,7 +1,7 @@
 -- `linear::light_to_code` meets its contract: 10 and 12 are offered, and no other depth.
 -- Assumes nothing.
 use denote.Ref.{now}
-use Rattle.linear.specs.Operations.{lightToCodesSays, lightToCodes}
+use Rattle.linear.specs.Operations.{lightToCodes}
 use Rattle.linear.proofs.Answering.{refuses, not-offered}
 use borrow.Author.Needs.{needs}
 use Rattle.linear.proofs.light_to_code.Statement.{statement}
@@ -38,7 +38,6 @@ returns-2 : tie.Need-returns-2
 returns-2 c = rw (c .before .before .before .before .before .before .match .keys2) (c .before .before .light-to-codes2 .ensures)
 
 returns-3 : tie.Need-returns-3
-unfolding lightToCodesSays
 returns-3 c =
     let a = c .before .before .args in
     refuses 9 _ (lightToCodes (a .depth) (now (a .src))) (now (a .dst)) (rw (not-offered (a .depth) (c .match .rest .0 .1) (c .match .rest .1)))

@@ -1,51 +1,82 @@
--- `linear::light_to_codes` meets its contract: each test in the order of refusals.
+-- `linear::light_to_codes` meets its contract: lengths that fit are written to, and any others left.
 -- Assumes nothing.
-use Prim.Native.Nat.{_*_, _/_, _%_}
-use borrow.Author.Tests.{eq-eqb, ne-eqb}
+use mathlib.Core.Path.{_≡_, refl, sym, ap, _∙_}
+use mathlib.Core.Bool.{true, false}
+use mathlib.Core.List.{List}
+use Prim.Native.Nat.{ℕ}
+use native.Mathlib.Omega.{arith}
 use denote.Ref.{now}
 use lib.ListN.{length}
-use Rattle.refusal.specs.Answers.{accepted}
+use Rattle.refusal.specs.declared.Answer.{Answer}
+use Rattle.refusal.specs.Answers.{Said, said, leaves}
+use Rattle.samples.proofs.Order.{accepted-exact}
 use Rattle.esrgb.specs.Depths.{bits}
 use Rattle.linear.specs.Operations.{lightToCodesSays, lightToCodes}
-use Rattle.linear.proofs.Answering.{answered, refuses}
+use Rattle.linear.proofs.Answering.{Answered, answered}
 use borrow.Author.Needs.{needs}
 use Rattle.linear.proofs.light_to_codes.Statement.{statement}
 use Rattle.linear.proofs.light_to_codes.Tie as tie
 
-returns : tie.Need-returns
-unfolding lightToCodesSays
-returns c =
+-- What is said, and what is written if that is to accept.
+abbrev says : tie.Start → Said
+says s = lightToCodesSays (bits (s .args .depth)) (length (now (s .args .src))) (length (now (s .args .dst)))
+
+abbrev new : tie.Start → List ℕ
+new s = lightToCodes (bits (s .args .depth)) (now (s .args .src))
+
+counted : (c : tie.After-count-pixels) → says (c .before .before .before) ≡ said (c .count-pixels .result)
+counted c = rw (c .before .before .before .pre .0) (sym (c .count-pixels .ensures))
+
+answers :
+    (c : tie.After-count-pixels) (r : Answer) (after : List ℕ) → c .count-pixels .result ≡ r
+    → let s = c .before .before .before in
+    after ≡ leaves (said r) (new s) (now (s .args .dst)) → Answered (said (c .count-pixels .result)) (says s) after (new s) (now (s .args .dst))
+answers c r after e h =
     let s = c .before .before .before in
-    refuses 10 _ (lightToCodes (bits (s .args .depth)) (now (s .args .src))) (now (s .args .dst))
-    (rw (s .pre .0, ne-eqb (length (now (s .args .src)) % 3) 0 (c .if1 .taken)))
+    answered _ _ after _ _ (counted c) (h ∙ sym (ap (λ (x : Answer). leaves (said x) (new s) (now (s .args .dst))) e))
 
-mul-if2 : tie.Need-mul-if2
-mul-if2 c = search needs
+count-pixels-requires : tie.Need-count-pixels-requires
+count-pixels-requires c κs = search needs
 
-returns-2 : tie.Need-returns-2
-unfolding lightToCodesSays
-returns-2 c =
-    let s = c .before .before .before .before in
-    let len = length (now (s .args .src)) in
-    refuses 11 _ (lightToCodes (bits (s .args .depth)) (now (s .args .src))) (now (s .args .dst))
-    (rw (s .pre .0, eq-eqb (len % 3) 0 (c .before .if1 .left), ne-eqb (length (now (s .args .dst))) (2 * len) (c .if2 .taken)))
+enum-told : tie.Need-enum-told
+enum-told c = search needs
 
 write-codes-requires : tie.Need-write-codes-requires
-write-codes-requires c κs = search needs
+write-codes-requires c κs =
+    let told = c .before in
+    let e = told .before .before in
+    let s = e .before .before .before in
+    let exact = accepted-exact true false true (length (now (s .args .src))) (length (now (s .args .dst))) _ _ (sym (e .count-pixels .ensures) ∙ ap said (told .enum-told .given .1)) .1 in
+    (s .pre .1, omega (arith, exact))
+
+enum-told-2 : tie.Need-enum-told-2
+enum-told-2 c = search needs
+
+enum-told-3 : tie.Need-enum-told-3
+enum-told-3 c = search needs
 
 same-length : tie.Need-same-length
 same-length c = search needs
 
+returns : tie.Need-returns
+returns c = answers (c .before .before .before .before .before .before) _ _ (c .before .before .before .before .enum-told .given .1) (c .before .before .write-codes .ensures)
+
+returns-2 : tie.Need-returns-2
+returns-2 c = answers (c .before .before) _ _ (c .enum-told2 .given .1) refl
+
 returns-3 : tie.Need-returns-3
-unfolding lightToCodesSays
-returns-3 c =
-    let e = c .before .before .before .before in
-    let s = e .before .before .before .before in
-    let len = length (now (s .args .src)) in
-    answered (accepted (len / 3)) _ _ (lightToCodes (bits (s .args .depth)) (now (s .args .src))) (now (s .args .dst))
-    (rw (s .pre .0, eq-eqb (len % 3) 0 (e .before .if1 .left), eq-eqb (length (now (s .args .dst))) (2 * len) (e .if2 .left)))
-    (c .before .before .write-codes .ensures)
+returns-3 c = answers (c .before .before) _ _ (c .enum-told3 .given .1) refl
 
 pub light-to-codes-spec : {M : Type 1} → statement M
 light-to-codes-spec =
-    tie.close (tie.spec returns mul-if2 returns-2 write-codes-requires same-length returns-3)
+    tie.close
+    (tie.spec
+    count-pixels-requires
+    enum-told
+    write-codes-requires
+    enum-told-2
+    enum-told-3
+    same-length
+    returns
+    returns-2
+    returns-3)

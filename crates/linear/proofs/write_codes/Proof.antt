@@ -12,7 +12,7 @@ use Rattle.numbers.specs.Bytes.{lowBytes}
 use Rattle.esrgb.specs.Depths.{bits}
 use Rattle.transfer.specs.Level.{codeOfLight}
 use Rattle.linear.specs.Operations.{lightToCodes}
-use Rattle.linear.proofs.Writing.{Written, written-more, written-all, take-two}
+use Rattle.numbers.proofs.Writing.{Written, written-more, written-all, take-two}
 use borrow.Author.Needs.{needs}
 use Rattle.linear.proofs.write_codes.Statement.{statement}
 use Rattle.linear.proofs.write_codes.Tie as tie

@@ -11,9 +11,9 @@ use mir.Syntax.{w32}
 use mir.Val.{toZ, ofZ}
 use mir.ValLaws.{toZ-ofZ}
 use Rattle.samples.specs.Samples.{twoByTwo}
-use Rattle.samples.proofs.Reading.{length-two, two-at}
+use Rattle.samples.proofs.Reading.{length-two}
 use Rattle.transfer.specs.Light.{lightOfCode}
-use Rattle.linear.proofs.Writing.{Written, written-more, written-all, take-one}
+use Rattle.numbers.proofs.Writing.{Written, written-more, written-all, take-one}
 use borrow.Author.Needs.{needs}
 use Rattle.linear.proofs.write_lights.Statement.{statement}
 use Rattle.linear.proofs.write_lights.Tie as tie
@@ -22,56 +22,32 @@ abbrev lights12 : ℕ → List ℕ → List ℤ
 lights12 factor = map (λ (x : ℕ). lightOfCode 12 (factor * x))
 
 abbrev Inv-loop : tie.InvT-loop
-Inv-loop lights factor src dst₀ k₀ dst k =
+Inv-loop lights factor src dst₀ end k₀ dst k =
     (k ≤ length dst₀) × (length dst ≡ length dst₀) × Written (lights12 factor) (twoByTwo src) dst k k
 
 abbrev μ-loop : tie.MeasureT-loop
-μ-loop lights factor src dst₀ k₀ dst k = length dst₀ - k
+μ-loop lights factor src dst₀ end k₀ dst k = length dst₀ - k
 
--- The two bytes are sample k, and so the code is one of 12 bits.
-sample-is :
-    (c : tie.After-from-two Inv-loop μ-loop)
-    → let l = c .before .before .before .before in
-    c .from-two .result ≡ getD (twoByTwo (now (l .before .before .args .src))) (l .loop .k) 0
-sample-is c =
-    let l = c .before .before .before .before in
-    let a = l .before .before in
-    c .from-two .ensures ∙ sym (two-at (now (a .args .src)) (l .loop .k) (omega (arith, a .pre .1)))
-
-code-fits : (c : tie.After-from-two Inv-loop μ-loop) → c .before .before .before .before .before .before .args .factor * c .from-two .result < 4096
+-- The code is one of 12 bits.
+code-fits : (c : tie.After-sample Inv-loop μ-loop) → c .before .before .before .before .args .factor * c .sample .result < 4096
 code-fits c =
-    let l = c .before .before .before .before in
-    rw (sample-is c) (l .before .before .pre .2 (l .loop .k))
+    let l = c .before .before in
+    rw (c .sample .ensures) (l .before .before .pre .2 (l .loop .k))
 
 loop-holds : tie.Need-loop-holds Inv-loop μ-loop
 loop-holds c = (omega arith, refl, refl)
 
-mul-from-two : tie.Need-mul-from-two Inv-loop μ-loop
-mul-from-two c = omega arith
-
-shared-slice-read-from-two : tie.Need-shared-slice-read-from-two Inv-loop μ-loop
-shared-slice-read-from-two c = omega arith
-
-mul-from-two-2 : tie.Need-mul-from-two-2 Inv-loop μ-loop
-mul-from-two-2 c = omega arith
-
-add-from-two : tie.Need-add-from-two Inv-loop μ-loop
-add-from-two c = omega arith
-
-shared-slice-read-from-two-2 : tie.Need-shared-slice-read-from-two-2 Inv-loop μ-loop
-shared-slice-read-from-two-2 c = omega arith
-
-from-two-requires : tie.Need-from-two-requires Inv-loop μ-loop
-from-two-requires c κs = search needs
+sample-requires : tie.Need-sample-requires Inv-loop μ-loop
+sample-requires c κs = search needs
 
 mul-code : tie.Need-mul-code Inv-loop μ-loop
 mul-code c = omega (arith, code-fits c)
 
 light-of-requires : tie.Need-light-of-requires Inv-loop μ-loop
-light-of-requires c κs = (c .before .before .before .before .before .before .pre .0, code-fits c)
+light-of-requires c κs = (c .before .before .before .before .pre .0, code-fits c)
 
-mul-t7 : tie.Need-mul-t7 Inv-loop μ-loop
-mul-t7 c = omega arith
+mul-t12 : tie.Need-mul-t12 Inv-loop μ-loop
+mul-t12 c = omega arith
 
 slice-set-from-dst : tie.Need-slice-set-from-dst Inv-loop μ-loop
 slice-set-from-dst c = omega arith
@@ -84,11 +60,11 @@ loop-less c = omega arith
 
 loop-again : tie.Need-loop-again Inv-loop μ-loop
 loop-again c =
-    let l = c .before .before .before .before .before in
+    let l = c .before .before .before in
     let a = l .before .before .args in
     let k = l .loop .k in
     let light : toZ w32 (ofZ w32 (c .light-of .result)) ≡ lightOfCode 12 (a .factor * getD (twoByTwo (now (a .src))) k 0) =
-    toZ-ofZ _ _ (record { sfits = c .light-of .ok }) ∙ c .light-of .ensures ∙ ap (λ (x : ℕ). lightOfCode 12 (a .factor * x)) (sample-is (c .before)) in (
+    toZ-ofZ _ _ (record { sfits = c .light-of .ok }) ∙ c .light-of .ensures ∙ ap (λ (x : ℕ). lightOfCode 12 (a .factor * x)) (c .before .sample .ensures) in (
       omega arith,
       simp length-set (l .loop .inv .1),
       written-more (lights12 (a .factor)) (twoByTwo (now (a .src))) 0 k k (k + 1) (l .loop .dst) _ _ (omega (arith, length-two (now (a .src))))
@@ -114,15 +90,10 @@ write-lights-spec =
     Inv-loop
     μ-loop
     loop-holds
-    mul-from-two
-    shared-slice-read-from-two
-    mul-from-two-2
-    add-from-two
-    shared-slice-read-from-two-2
-    from-two-requires
+    sample-requires
     mul-code
     light-of-requires
-    mul-t7
+    mul-t12
     slice-set-from-dst
     add-k
     loop-less

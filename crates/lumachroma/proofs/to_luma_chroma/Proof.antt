@@ -5,6 +5,7 @@ use mathlib.Core.Path.{_≡_, _∙_}
 use Prim.Native.Nat.{ℕ, _+_, _-_, _*_, _/_}
 use native.Mathlib.Omega.{arith}
 use Rattle.numbers.specs.Rounding.{nearest}
+use Rattle.samples.specs.Samples.{pixel}
 use Rattle.esrgb.specs.Depths.{bits}
 use Rattle.lumachroma.specs.LumaChroma.{luma, chroma, blueChroma, redChroma}
 use borrow.Author.Needs.{needs}
@@ -49,10 +50,10 @@ returns c =
     let a = c .before .before .before .before .before .args in
     let n = bits (a .depth) in
     let sum = c .before .before .before .before .weighted-sum .result in
-    let y : (sum + 500) / 1000 ≡ luma (a .p .red) (a .p .green) (a .p .blue) = omega arith in
-    let cb = same-chroma n 1772 (1000 * a .p .blue) sum (886 * a .p .blue) (299 * a .p .red + 587 * a .p .green) (omega arith) (omega arith) in
-    let cr = same-chroma n 1402 (1000 * a .p .red) sum (701 * a .p .red) (587 * a .p .green + 114 * a .p .blue) (omega arith) (omega arith) in
-    λ i. record { luma = y i; cb = (c .before .before .chroma-of .ensures ∙ cb) i; cr = (c .chroma-of2 .ensures ∙ cr) i }
+    let y : (sum + 500) / 1000 ≡ luma (a .p .first) (a .p .second) (a .p .third) = omega arith in
+    let cb = same-chroma n 1772 (1000 * a .p .third) sum (886 * a .p .third) (299 * a .p .first + 587 * a .p .second) (omega arith) (omega arith) in
+    let cr = same-chroma n 1402 (1000 * a .p .first) sum (701 * a .p .first) (587 * a .p .second + 114 * a .p .third) (omega arith) (omega arith) in
+    λ i. pixel (y i) ((c .before .before .chroma-of .ensures ∙ cb) i) ((c .chroma-of2 .ensures ∙ cr) i)
 
 pub to-luma-chroma-spec : {M : Type 1} → statement M
 to-luma-chroma-spec =

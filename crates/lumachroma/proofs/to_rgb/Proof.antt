@@ -2,6 +2,7 @@
 -- Assumes nothing.
 use mathlib.Core.Path.{ap, _∙_}
 use Prim.Native.Nat.{ℕ, _+_, _*_}
+use Rattle.samples.specs.Samples.{pixel}
 use Rattle.lumachroma.specs.LumaChroma.{redBack, greenBack, blueBack}
 use Rattle.lumachroma.specs.HowDivided.{clippedAt}
 use Rattle.lumachroma.proofs.Quotient.{clipped-at}
@@ -27,14 +28,10 @@ returns c =
     let start = c .before .before .before .before .args in
     let p = start .p in
     let e = c .before .before .before .middle-of .ensures .0 in
-    let red = ap (λ (m : ℕ). clippedAt m (1000 * p .luma + 1402 * p .cr) (1402 * m) 1000) e ∙ clipped-at (start .depth) _ _ _ in
-    let green = ap (λ (m : ℕ). clippedAt m (587000 * p .luma + (202008 + 419198) * m) (202008 * p .cb + 419198 * p .cr) 587000) e ∙ clipped-at (start .depth) _ _ _ in
-    let blue = ap (λ (m : ℕ). clippedAt m (1000 * p .luma + 1772 * p .cb) (1772 * m) 1000) e ∙ clipped-at (start .depth) _ _ _ in
-    λ i. record {
-      red = (c .before .before .add-chroma .ensures ∙ red) i;
-      green = (c .before .green-of .ensures ∙ green) i;
-      blue = (c .add-chroma2 .ensures ∙ blue) i;
-    }
+    let red = ap (λ (m : ℕ). clippedAt m (1000 * p .first + 1402 * p .third) (1402 * m) 1000) e ∙ clipped-at (start .depth) _ _ _ in
+    let green = ap (λ (m : ℕ). clippedAt m (587000 * p .first + (202008 + 419198) * m) (202008 * p .second + 419198 * p .third) 587000) e ∙ clipped-at (start .depth) _ _ _ in
+    let blue = ap (λ (m : ℕ). clippedAt m (1000 * p .first + 1772 * p .second) (1772 * m) 1000) e ∙ clipped-at (start .depth) _ _ _ in
+    λ i. pixel ((c .before .before .add-chroma .ensures ∙ red) i) ((c .before .green-of .ensures ∙ green) i) ((c .add-chroma2 .ensures ∙ blue) i)
 
 pub to-rgb-spec : {M : Type 1} → statement M
 to-rgb-spec =

@@ -1,24 +1,25 @@
--- `picture::convert` meets its contract: a depth that is not offered, or a run at depths that are.
+-- `picture::convert` meets its contract: a depth that is not offered, or a run of the plan.
 -- Assumes nothing.
-use mathlib.Core.Path.{sym, subst}
-use lib.ListN.{length}
+use mathlib.Core.Path.{sym, ap, subst, _∙_}
 use denote.Ref.{now}
-use Rattle.picture.specs.HowConverted.{Offering}
-use Rattle.picture.proofs.Cases.{says-9, bytes-left}
+use Rattle.refusal.specs.Answers.{leaves}
+use Rattle.picture.specs.Convert.{converted}
+use Rattle.picture.specs.HowConverted.{Planned}
+use Rattle.picture.proofs.Answering.{not-offered, planned-says, planned-leaves}
 use borrow.Author.Needs.{needs}
 use Rattle.picture.proofs.convert.Statement.{statement}
 use Rattle.picture.proofs.convert.Tie as tie
 
-offers-for-requires : tie.Need-offers-for-requires
-offers-for-requires c κs = search needs
+planned-requires : tie.Need-planned-requires
+planned-requires c κs = search needs
 
-enum-known-offers : tie.Need-enum-known-offers
-enum-known-offers c = search needs
+enum-known-plan : tie.Need-enum-known-plan
+enum-known-plan c = search needs
 
 run-requires : tie.Need-run-requires
 run-requires c κs =
     let s = c .before .before .before .before .before .before .before in
-    subst (Offering (s .args .conversion)) (c .before .before .offers .given .1) (c .before .before .before .before .offers-for .ensures)
+    subst (Planned (s .args .conversion)) (c .before .before .plan .given .1) (c .before .before .before .before .planned .ensures) .reads
 
 enum-told : tie.Need-enum-told
 enum-told c = search needs
@@ -27,21 +28,26 @@ same-length : tie.Need-same-length
 same-length c = search needs
 
 returns : tie.Need-returns
-returns c = search needs
+returns c =
+    let a = c .before .before .before .before .before .before .before .before .before .before .args in
+    let plan = subst (Planned (a .conversion)) (c .before .before .before .before .before .plan .given .1) (c .before .before .before .before .before .before .before .planned .ensures) in (
+      c .before .before .run .ensures .0 ∙ planned-says (a .conversion) (now (a .src)) (now (a .dst)) _ _ plan,
+      c .before .before .run .ensures .1 ∙ planned-leaves (a .conversion) (now (a .src)) (now (a .dst)) _ _ plan,
+    )
 
 returns-2 : tie.Need-returns-2
 returns-2 c =
-    let s = c .before .before .before .before .before in
-    let none = subst (Offering (s .args .conversion)) (c .enum-told .given .1) (c .before .before .offers-for .ensures) in
-    let says = says-9 (s .args .conversion) (now (s .args .src)) (length (now (s .args .dst))) none in
-    (sym says, bytes-left (s .args .conversion) (now (s .args .src)) (now (s .args .dst)) _ says)
+    let a = c .before .before .before .before .before .args in
+    let none = subst (Planned (a .conversion)) (c .enum-told .given .1) (c .before .before .planned .ensures) in
+    let says = sym (not-offered (a .conversion) (now (a .src)) (now (a .dst)) none) in
+    (says, ap (λ s. leaves s (converted (a .conversion) (now (a .src))) (now (a .dst))) says)
 
 pub convert-spec : {M : Type 1} → statement M
 convert-spec =
     tie.close
     (tie.spec
-    offers-for-requires
-    enum-known-offers
+    planned-requires
+    enum-known-plan
     run-requires
     enum-told
     same-length

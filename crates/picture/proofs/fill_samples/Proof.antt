@@ -1,5 +1,5 @@
 use Prim.Native.Nat.{_+_, _-_, _≤_}
-use mathlib.Core.Path.{_≡_, sym, ap, _∙_}
+use mathlib.Core.Path.{_≡_, refl, sym, ap, _∙_}
 use native.Mathlib.Nat.{le-refl}
 use native.Mathlib.Omega.{arith}
 use lib.ListN.{length}
@@ -8,12 +8,13 @@ use borrow.Author.Needs.{needs}
 use Rattle.samples.specs.Samples.{place, samplesOf}
 use Rattle.samples.proofs.Reading.{length-samples}
 use Rattle.esrgb.specs.HowApplied.{applied}
-use Rattle.picture.proofs.Filling.{Samples, samples-none, samples-more, samples-all, place-within, count-within}
+use Rattle.numbers.proofs.Writing.{Written, written-all}
+use Rattle.picture.proofs.Filling.{place-within, bytesBy, none-written, one-more}
 use Rattle.picture.proofs.fill_samples.Statement.{statement}
 use Rattle.picture.proofs.fill_samples.Tie as tie
 
 abbrev Inv-loop : tie.InvT-loop
-Inv-loop rule from to src dst₀ end k₀ dst k = (k ≤ end) × Samples to (applied rule) (samplesOf from src) dst₀ dst k
+Inv-loop rule from to src dst₀ end k₀ dst k = (k ≤ end) × (length dst ≡ length dst₀) × Written (bytesBy to (applied rule)) (samplesOf from src) dst (place to k) k
 
 abbrev μ-loop : tie.MeasureT-loop
 μ-loop rule from to src dst₀ end k₀ dst k = end - k
@@ -26,7 +27,7 @@ count-is c =
 
 room : (c : tie.At-loop Inv-loop μ-loop) →
     place (c .before .before .before .before .args .to) (c .before .sample-count .result) ≤ length (c .loop .dst)
-room c = rw (count-is c, c .loop .inv .1 .same, c .before .before .before .before .pre) (le-refl _)
+room c = rw (count-is c, c .loop .inv .1, c .before .before .before .before .pre) (le-refl _)
 
 sample-count-requires : tie.Need-sample-count-requires Inv-loop μ-loop
 sample-count-requires c κs = search needs
@@ -34,13 +35,10 @@ sample-count-requires c κs = search needs
 loop-holds : tie.Need-loop-holds Inv-loop μ-loop
 loop-holds c =
     let a = c .before .before .before .args in
-    (omega arith, samples-none (a .to) (applied (a .rule)) (samplesOf (a .from) (now (a .src))) (now (a .dst)))
+    (omega arith, refl, none-written (a .to) (applied (a .rule)) (samplesOf (a .from) (now (a .src))) (now (a .dst)))
 
 sample-requires : tie.Need-sample-requires Inv-loop μ-loop
-sample-requires c κs =
-    let a = c .before .before .before .before .before .args in
-    place-within (a .from) (c .before .loop .k + 1) (c .before .before .sample-count .result) (length (now (a .src))) (omega arith)
-    (rw (c .before .before .sample-count .ensures) (count-within (a .from) (length (now (a .src)))))
+sample-requires c κs = search needs
 
 apply-requires : tie.Need-apply-requires Inv-loop μ-loop
 apply-requires c κs = search needs
@@ -62,20 +60,22 @@ loop-again c =
     let a = at .before .before .before .before .args in
     let put = c .before .before in (
       omega arith,
-      samples-more (a .to) (applied (a .rule)) (samplesOf (a .from) (now (a .src))) (now (a .dst)) (at .loop .dst) (put .put .last .0) (at .loop .k) _
-          (omega (arith, count-is at)) (at .loop .inv .1)
+      put .put .kept .0 ∙ at .loop .inv .1,
+      one-more (a .to) (applied (a .rule)) (samplesOf (a .from) (now (a .src))) (at .loop .dst) (put .put .last .0) (at .loop .k) _
+          (omega (arith, count-is at))
           (put .before .apply .ensures ∙ ap (applied (a .rule)) (put .before .before .before .sample .ensures))
-          (put .put .kept .0) (put .put .ensures),
+          (put .put .ensures) (at .loop .inv .2),
     )
 
 same-length : tie.Need-same-length Inv-loop μ-loop
-same-length c = c .before .loop .inv .1 .same
+same-length c = c .before .loop .inv .1
 
 returns : tie.Need-returns Inv-loop μ-loop
 returns c =
-    let s = c .before .before .before .before .before in
-    samples-all (s .args .to) (applied (s .args .rule)) (samplesOf (s .args .from) (now (s .args .src))) (now (s .args .dst)) (c .before .loop .dst) (c .before .loop .k)
-    (omega (arith, count-is (c .before))) (c .before .loop .inv .1) (s .pre)
+    let a = c .before .before .before .before .before .args in
+    let at = c .before in
+    written-all (bytesBy (a .to) (applied (a .rule))) (samplesOf (a .from) (now (a .src))) (at .loop .dst) (place (a .to) (at .loop .k)) (at .loop .k)
+    refl (omega (arith, count-is at)) (rw (at .loop .inv .1, c .before .before .before .before .before .pre, ← count-is at) (place-within (a .to) (at .before .sample-count .result) (at .loop .k) _ (omega arith) (le-refl _))) (at .loop .inv .2)
 
 pub fill-samples-spec : {M : Type 1} → statement M
 fill-samples-spec =

@@ -34,7 +34,7 @@ returns c =
     let second = third .before .before .before .before in
     let first = second .before .before .before .before in
     let a = first .before .before .before .args in
-    three-put (now (a .dst)) (first .put .last .0) (second .put2 .last .0) (third .put3 .last .0) (a .i) (a .p .a) (a .p .b) (a .p .c) (first .put .ensures) (second .put2 .ensures) (third .put3 .ensures)
+    three-put (now (a .dst)) (first .put .last .0) (second .put2 .last .0) (third .put3 .last .0) (a .i) (a .p .first) (a .p .second) (a .p .third) (first .put .ensures) (second .put2 .ensures) (third .put3 .ensures)
 
 pub put-pixel-spec : {M : Type 1} → statement M
 put-pixel-spec =

@@ -1,26 +1,49 @@
--- `picture::run` meets its contract: an accepted call fits and is filled, and a refused one leaves what stood there.
+-- `picture::run` meets its contract: what is judged to be sound is written, and anything else is left.
 -- Assumes nothing.
-use mathlib.Core.Path.{sym, ap, _∙_}
+use mathlib.Core.Path.{_≡_, sym, ap, subst, _∙_}
+use mathlib.Core.Bool.{true}
+use lib.ListN.{length}
 use denote.Ref.{now}
-use Rattle.refusal.specs.Answers.{said}
-use Rattle.picture.proofs.Cases.{named-offers, accepted-fit, bytes-left}
+use Rattle.refusal.specs.declared.Answer.{Answer}
+use Rattle.refusal.specs.Answers.{said, leaves}
+use Rattle.samples.specs.Faults.{Exact, sourceSays}
+use Rattle.samples.proofs.Order.{source-exact}
+use Rattle.picture.specs.HowConverted.{writesWide, made}
 use borrow.Author.Needs.{needs}
 use Rattle.picture.proofs.run.Statement.{statement}
 use Rattle.picture.proofs.run.Tie as tie
 
-decide-requires : tie.Need-decide-requires
-decide-requires c κs =
-    let s = c .before .before in
-    (named-offers (s .args .conversion) (s .args .from) (s .args .to) (s .pre), s .pre .from-is)
+-- what is said, and what that leaves
+says : (c : tie.After-examine) →
+    let a = c .before .before .before .before .args in said (c .examine .result) ≡ sourceSays true (a .coding) (writesWide (a .work)) (now (a .src)) (length (now (a .dst)))
+says c =
+    let a = c .before .before .before .before .args in
+    c .examine .ensures ∙ ap (λ to. sourceSays true (a .coding) to (now (a .src)) (length (now (a .dst)))) (c .before .writes-wide .ensures)
+
+leaves-by : (c : tie.After-examine) (answer : Answer) → c .examine .result ≡ answer →
+    let a = c .before .before .before .before .args in
+    leaves (said answer) (made (a .work) (now (a .src))) (now (a .dst))
+    ≡ leaves (sourceSays true (a .coding) (writesWide (a .work)) (now (a .src)) (length (now (a .dst)))) (made (a .work) (now (a .src))) (now (a .dst))
+leaves-by c answer e =
+    let a = c .before .before .before .before .args in
+    ap (λ s. leaves s (made (a .work) (now (a .src))) (now (a .dst))) (sym (ap said e) ∙ says c)
+
+writes-wide-requires : tie.Need-writes-wide-requires
+writes-wide-requires c κs = search needs
+
+examine-requires : tie.Need-examine-requires
+examine-requires c κs = search needs
 
 enum-told : tie.Need-enum-told
 enum-told c = search needs
 
 fill-requires : tie.Need-fill-requires
 fill-requires c κs =
-    let s = c .before .before .before .before .before .before in
-    let told = c .before in
-    (s .pre, accepted-fit (s .args .conversion) (now (s .args .src)) (now (s .args .dst)) _ (sym (told .before .before .decide .ensures) ∙ ap said (told .enum-told .given .1)))
+    let examined = c .before .before .before in
+    let s = examined .before .before .before .before in
+    let a = s .args in
+    subst (λ from. Exact from (writesWide (a .work)) (length (now (a .src))) (length (now (a .dst)))) (s .pre)
+    (source-exact true (a .coding) (writesWide (a .work)) (now (a .src)) (length (now (a .dst))) _ (sym (says examined) ∙ ap said (c .before .enum-told .given .1)))
 
 enum-told-2 : tie.Need-enum-told-2
 enum-told-2 c = search needs
@@ -32,29 +55,20 @@ same-length : tie.Need-same-length
 same-length c = search needs
 
 returns : tie.Need-returns
-returns c =
-    let told = c .before .before .before .before in
-    let s = told .before .before .before .before .before in
-    let says = told .before .before .decide .ensures in
-    (says, c .before .before .fill .ensures ∙ bytes-left (s .args .conversion) (now (s .args .src)) (now (s .args .dst)) _ (sym says ∙ ap said (told .enum-told .given .1)))
+returns c = (says (c .before .before .before .before .before .before), c .before .before .fill .ensures ∙ leaves-by (c .before .before .before .before .before .before) _ (c .before .before .before .before .enum-told .given .1))
 
 returns-2 : tie.Need-returns-2
-returns-2 c =
-    let s = c .before .before .before .before .before in
-    let says = c .before .before .decide .ensures in
-    (says, bytes-left (s .args .conversion) (now (s .args .src)) (now (s .args .dst)) _ (sym says ∙ ap said (c .enum-told2 .given .1)))
+returns-2 c = (says (c .before .before), leaves-by (c .before .before) _ (c .enum-told2 .given .1))
 
 returns-3 : tie.Need-returns-3
-returns-3 c =
-    let s = c .before .before .before .before .before in
-    let says = c .before .before .decide .ensures in
-    (says, bytes-left (s .args .conversion) (now (s .args .src)) (now (s .args .dst)) _ (sym says ∙ ap said (c .enum-told3 .given .1)))
+returns-3 c = (says (c .before .before), leaves-by (c .before .before) _ (c .enum-told3 .given .1))
 
 pub run-spec : {M : Type 1} → statement M
 run-spec =
     tie.close
     (tie.spec
-    decide-requires
+    writes-wide-requires
+    examine-requires
     enum-told
     fill-requires
     enum-told-2

@@ -22,8 +22,8 @@ abbrev μ-loop : tie.MeasureT-loop
 loop-holds : tie.Need-loop-holds Inv-loop μ-loop
 loop-holds c = (omega arith, refl)
 
-sample-requires : tie.Need-sample-requires Inv-loop μ-loop
-sample-requires c κs = omega arith
+wide-sample-requires : tie.Need-wide-sample-requires Inv-loop μ-loop
+wide-sample-requires c κs = omega arith
 
 add-k : tie.Need-add-k Inv-loop μ-loop
 add-k c = omega arith
@@ -41,7 +41,7 @@ loop-again c =
       at .loop .inv .1
           ∙ ap (λ w. not (at .loop .out) && w) (within-at (a .least) (a .greatest) xs k (omega (arith, length-two (a .src .now))))
           ∙ one-more (at .loop .out) (ltb (getD xs k 0) (a .least)) (ltb (a .greatest) (getD xs k 0)) (allWithin (a .least) (a .greatest) (drop (k + 1) xs))
-          ∙ rw (c .sample .ensures),
+          ∙ rw (c .wide-sample .ensures),
     )
 
 returns : tie.Need-returns Inv-loop μ-loop
@@ -54,4 +54,4 @@ returns c =
 pub all-within-spec : {M : Type 1} → statement M
 all-within-spec =
     tie.close
-    (tie.spec Inv-loop μ-loop loop-holds sample-requires add-k loop-less loop-again returns)
+    (tie.spec Inv-loop μ-loop loop-holds wide-sample-requires add-k loop-less loop-again returns)

@@ -1,49 +1,49 @@
 use Prim.Native.Nat.{_≤_, _+_, _-_, _*_}
 use mathlib.Core.Path.{_≡_, sym, ap, _∙_}
 use mathlib.Core.List.{[]}
-use mathlib.Core.Bool.{true}
 use native.Mathlib.Omega.{arith}
 use lib.ListN.{drop, drop-of-length-le}
-use Rattle.samples.specs.declared.Finding.{Finding}
+use Rattle.refusal.specs.declared.Checked.{Checked}
+use Rattle.samples.specs.declared.Coding.the-variants.{Codes}
 use Rattle.samples.proofs.Reading.{length-two}
-use Rattle.samples.proofs.Judging.{judged-at}
+use Rattle.samples.proofs.Judging.{say-at}
 use borrow.Author.Needs.{needs}
-use Rattle.refusal.specs.Answers.{accepted}
+use Rattle.refusal.specs.Answers.{verdict, accepted}
 use Rattle.samples.specs.Samples.{twoByTwo}
-use Rattle.samples.specs.Faults.{verdict, fault, decides, judged}
+use Rattle.samples.specs.Faults.{fault, decides, samplesSay}
 use Rattle.samples.proofs.first_fault.Statement.{statement}
 use Rattle.samples.proofs.first_fault.Tie as tie
 
 abbrev Inv-loop : tie.InvT-loop
-Inv-loop chroma greatest src pixels start end k₀ k = (k ≤ end) × (judged true chroma greatest (accepted pixels) 0 (twoByTwo src) ≡ judged true chroma greatest (accepted pixels) k (drop k (twoByTwo src)))
+Inv-loop chroma greatest src pixels start end k₀ k = (k ≤ end) × (samplesSay (Codes greatest chroma) (accepted pixels) 0 (twoByTwo src) ≡ samplesSay (Codes greatest chroma) (accepted pixels) k (drop k (twoByTwo src)))
 
 abbrev μ-loop : tie.MeasureT-loop
 μ-loop chroma greatest src pixels start end k₀ k = end - k
 
 -- sample k decides, or hands on to the samples behind it
 judged-here :
-    (c : tie.After-look-at Inv-loop μ-loop) (found : Finding) → c .look-at .result ≡ found
+    (c : tie.After-look-at Inv-loop μ-loop) (found : Checked) → c .look-at .result ≡ found
     → let at = c .before .before .before in
     let a = at .before .before .args in
     let xs = twoByTwo (a .src .now) in
-    judged true (a .chroma) (a .greatest) (accepted (a .pixels)) (at .loop .k) (drop (at .loop .k) xs)
-    ≡ decides (verdict found) (2 * at .loop .k) (judged true (a .chroma) (a .greatest) (accepted (a .pixels)) (at .loop .k + 1) (drop (at .loop .k + 1) xs))
+    samplesSay (Codes (a .greatest) (a .chroma)) (accepted (a .pixels)) (at .loop .k) (drop (at .loop .k) xs)
+    ≡ decides (verdict found) (2 * at .loop .k) (samplesSay (Codes (a .greatest) (a .chroma)) (accepted (a .pixels)) (at .loop .k + 1) (drop (at .loop .k + 1) xs))
 judged-here c found e =
     let at = c .before .before .before in
     let a = at .before .before .args in
     let xs = twoByTwo (a .src .now) in
     let k = at .loop .k in
-    judged-at true (a .chroma) (a .greatest) (accepted (a .pixels)) xs k (omega (arith, length-two (a .src .now)))
-    ∙ ap (λ v. decides v (2 * k) (judged true (a .chroma) (a .greatest) (accepted (a .pixels)) (k + 1) (drop (k + 1) xs)))
-    (ap (fault (a .chroma) (a .greatest) k) (sym (c .before .sample .ensures)) ∙ sym (c .look-at .ensures) ∙ ap verdict e)
+    say-at (Codes (a .greatest) (a .chroma)) (accepted (a .pixels)) xs k (omega (arith, length-two (a .src .now)))
+    ∙ ap (λ v. decides v (2 * k) (samplesSay (Codes (a .greatest) (a .chroma)) (accepted (a .pixels)) (k + 1) (drop (k + 1) xs)))
+    (ap (fault (Codes (a .greatest) (a .chroma)) k) (sym (c .before .wide-sample .ensures)) ∙ sym (c .look-at .ensures) ∙ ap verdict e)
 
 loop-holds : tie.Need-loop-holds Inv-loop μ-loop
 loop-holds c =
     let s = c .before in
     (omega (arith, s .pre .inside, length-two (s .args .src .now)), s .pre .skips (accepted (s .args .pixels)))
 
-sample-requires : tie.Need-sample-requires Inv-loop μ-loop
-sample-requires c κs = omega arith
+wide-sample-requires : tie.Need-wide-sample-requires Inv-loop μ-loop
+wide-sample-requires c κs = omega arith
 
 look-at-requires : tie.Need-look-at-requires Inv-loop μ-loop
 look-at-requires c κs = search needs
@@ -75,7 +75,7 @@ loop-again c =
     (omega arith, at .loop .inv .1 ∙ judged-here (c .before .before) _ (c .enum-told .given .1))
 
 returns-2 : tie.Need-returns-2 Inv-loop μ-loop
-unfolding judged
+unfolding samplesSay
 returns-2 c =
     let a = c .before .before .before .args in
     let rest : drop (c .before .loop .k) (twoByTwo (a .src .now)) ≡ [] = drop-of-length-le _ {i = c .before .loop .k} (omega (arith, length-two (a .src .now))) in
@@ -88,7 +88,7 @@ first-fault-spec =
     Inv-loop
     μ-loop
     loop-holds
-    sample-requires
+    wide-sample-requires
     look-at-requires
     enum-told
     enum-known-found

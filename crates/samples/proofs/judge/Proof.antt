@@ -19,7 +19,7 @@ returns c =
     let codes : s .args .chroma ≡ false = not-true _ (c .if2 .taken) in
     sym
     (rw (codes, c .before .if1 .taken)
-    (none-above true 65535 (accepted (s .args .pixels)) 0 words (two-below (now (s .args .src)) (λ i. c .before .before .shared-slice-known .given i .fits))))
+    (none-above 65535 (accepted (s .args .pixels)) 0 words (two-below (now (s .args .src)) (λ i. c .before .before .shared-slice-known .given i .fits))))
 
 least-of-requires : tie.Need-least-of-requires
 least-of-requires c κs = search needs
@@ -35,7 +35,7 @@ returns-2 c =
     ap (λ least. allWithin least (a .greatest) words) (sym (c .before .before .least-of .ensures))
     ∙ sym (c .before .all-within .ensures)
     ∙ c .if3 .taken in
-    sym (within-sound true (a .chroma) (a .greatest) (accepted (a .pixels)) 0 words quick)
+    sym (within-sound (a .chroma) (a .greatest) (accepted (a .pixels)) 0 words quick)
 
 sound-start-requires : tie.Need-sound-start-requires
 sound-start-requires c κs = search needs

@@ -23,29 +23,17 @@ abbrev μ-loop : tie.MeasureT-loop
 loop-holds : tie.Need-loop-holds Inv-loop μ-loop
 loop-holds c = (omega arith, sound-none (c .before .args .chroma) (c .before .args .greatest) (twoByTwo (c .before .args .src .now)))
 
-mul-k : tie.Need-mul-k Inv-loop μ-loop
-mul-k c = omega arith
-
-sample-requires : tie.Need-sample-requires Inv-loop μ-loop
-sample-requires c κs = omega arith
-
-add-sample : tie.Need-add-sample Inv-loop μ-loop
-add-sample c = omega arith
-
-sample-requires-2 : tie.Need-sample-requires-2 Inv-loop μ-loop
-sample-requires-2 c κs = omega arith
-
-add-sample-2 : tie.Need-add-sample-2 Inv-loop μ-loop
-add-sample-2 c = omega arith
-
-sample-requires-3 : tie.Need-sample-requires-3 Inv-loop μ-loop
-sample-requires-3 c κs = omega arith
+pixel-at-requires : tie.Need-pixel-at-requires Inv-loop μ-loop
+pixel-at-requires c κs = search needs
 
 at-fault-requires : tie.Need-at-fault-requires Inv-loop μ-loop
 at-fault-requires c κs = search needs
 
+mul-result : tie.Need-mul-result Inv-loop μ-loop
+mul-result c = omega arith
+
 returns : tie.Need-returns Inv-loop μ-loop
-returns c = c .before .before .before .before .before .before .loop .inv .1
+returns c = c .before .before .before .before .loop .inv .1
 
 add-i : tie.Need-add-i Inv-loop μ-loop
 add-i c = omega arith
@@ -55,18 +43,16 @@ loop-less c = omega arith
 
 loop-again : tie.Need-loop-again Inv-loop μ-loop
 loop-again c =
-    let asked = c .before in
-    let at = asked .before .before .before .before .before in
+    let at = c .before .before .before .before in
     let a = at .before .before .args in
     let i = at .loop .i in
-    let sound : atFault (a .chroma) (a .greatest) (asked .before .before .before .sample .result, asked .before .before .sample2 .result, asked .before .sample3 .result) ≡ false = sym (asked .at-fault .ensures) ∙ c .if1 .left in (
+    let sound = rw (c .before .before .pixel-at .ensures) at (sym (c .before .at-fault .ensures) ∙ c .if1 .left) in (
       omega arith,
-      sound-more (a .chroma) (a .greatest) (twoByTwo (a .src .now)) i (omega (arith, length-two (a .src .now)))
-          (rw (asked .before .before .before .sample .ensures, asked .before .before .sample2 .ensures, asked .before .sample3 .ensures) at sound) (at .loop .inv .1),
+      sound-more (a .chroma) (a .greatest) (twoByTwo (a .src .now)) i (omega (arith, length-two (a .src .now))) sound (at .loop .inv .1),
     )
 
-mul-result : tie.Need-mul-result Inv-loop μ-loop
-mul-result c = omega arith
+mul-result-2 : tie.Need-mul-result-2 Inv-loop μ-loop
+mul-result-2 c = omega arith
 
 returns-2 : tie.Need-returns-2 Inv-loop μ-loop
 returns-2 c =
@@ -81,16 +67,12 @@ sound-start-spec =
     Inv-loop
     μ-loop
     loop-holds
-    mul-k
-    sample-requires
-    add-sample
-    sample-requires-2
-    add-sample-2
-    sample-requires-3
+    pixel-at-requires
     at-fault-requires
+    mul-result
     returns
     add-i
     loop-less
     loop-again
-    mul-result
+    mul-result-2
     returns-2)

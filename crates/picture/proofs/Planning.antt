@@ -1,0 +1,126 @@
+-- Each conversion has a loop that does it: samples one by one are pixels one by one, and a rule that computes a definition writes its
+-- bytes.
+-- Assumes nothing.
+use Prim.Native.Nat.{ℕ, _*_, _/_, _%_}
+use mathlib.Core.Path.{_≡_, refl, sym, ap, _∙_}
+use mathlib.Core.Bool.{Bool, true, false}
+use mathlib.Core.List.{List, [], _∷_, map}
+use native.Mathlib.Omega.{arith}
+use lib.ListN.{length}
+use Rattle.samples.specs.declared.Coding.{Coding}
+use Rattle.samples.specs.declared.Coding.the-variants.{Bytes, Codes}
+use Rattle.samples.specs.Samples.{place, pixelSize, samplesOf, sampleBytes, bytesOf, pixelsOf, samplesIn, read, write}
+use Rattle.samples.specs.Faults.{Exact}
+use Rattle.samples.proofs.Reading.{length-two}
+use Rattle.samples.proofs.Buffers.{length-read}
+use Rattle.esrgb.specs.declared.Depth.{Depth}
+use Rattle.esrgb.specs.declared.Line.{Line}
+use Rattle.esrgb.specs.declared.Cut.{Cut}
+use Rattle.esrgb.specs.declared.SampleRule.{SampleRule}
+use Rattle.esrgb.specs.declared.SampleRule.the-variants as sample
+use Rattle.esrgb.specs.declared.SampleRule.the-variants.{Affine, ToEight}
+use Rattle.esrgb.specs.Depths.{bits, greatest}
+use Rattle.esrgb.specs.Codes.{fromSrgb, toSrgb, changeDepth}
+use Rattle.esrgb.specs.HowApplied.{applied, Computes}
+use Rattle.esrgb.proofs.Scale.{offered-bits}
+use Rattle.picture.specs.declared.Conversion.{Conversion}
+use Rattle.picture.specs.declared.Conversion.the-variants.{FromSrgb, ToSrgb, ChangeDepth, ToLumaChroma, FromLumaChroma}
+use Rattle.picture.specs.declared.PixelRule.the-variants as rule
+use Rattle.picture.specs.declared.Work.{Work}
+use Rattle.picture.specs.declared.Work.the-variants.{Widen, Narrow, Scale, Drop, Pixels}
+use Rattle.picture.specs.Convert.{each, converted}
+use Rattle.picture.specs.HowConverted.{Changes, Plans}
+
+-- ---- lengths
+pub room-samples :
+    (from to : Bool) (src dst : List ℕ) → Exact from to (length src) (length dst) → length dst ≡ place to (length (samplesOf from src))
+room-samples true true src dst e = omega (arith, e, length-two src)
+room-samples true false src dst e = omega (arith, e, length-two src)
+room-samples false true src dst e = omega (arith, e)
+room-samples false false src dst e = omega (arith, e)
+
+pub room-pixels : (src dst : List ℕ) → Exact true true (length src) (length dst) → length dst ≡ 6 * length (read true src)
+room-pixels src dst e = rw (length-read true src) (e .room-is)
+
+whole-samples : (wide : Bool) (src : List ℕ) → length src % pixelSize wide ≡ 0 → length (samplesOf wide src) % 3 ≡ 0
+whole-samples true src h = omega (arith, length-two src)
+whole-samples false src h = h
+
+-- ---- bytes
+each-sample : (f : ℕ → ℕ) (xs : List ℕ) → length xs % 3 ≡ 0 → samplesIn (map (each f) (pixelsOf xs)) ≡ map f xs
+each-sample f [] h = refl
+each-sample f (a ∷ []) h = absurd (omega arith)
+each-sample f (a ∷ b ∷ []) h = absurd (omega arith)
+each-sample f (a ∷ b ∷ c ∷ rest) h = ap {B = List ℕ} (λ l. f a ∷ f b ∷ f c ∷ l) (each-sample f rest (omega arith))
+
+second-byte : (x : ℕ) → x / 256 % 256 ≡ x % 65536 / 256
+second-byte x = omega arith
+
+-- the bytes of a sample say no more than its 16 bits
+same-bytes : (wide : Bool) (x y : ℕ) → x % 65536 ≡ y % 65536 → sampleBytes wide x ≡ sampleBytes wide y
+same-bytes true x y h =
+    let low : x % 256 ≡ y % 256 = omega arith in
+    let high : x / 256 % 256 ≡ y / 256 % 256 = second-byte x ∙ ap (λ z. z / 256) h ∙ sym (second-byte y) in
+    cc
+same-bytes false x y h = let low : x % 256 ≡ y % 256 = omega arith in cc
+
+pub same-samples : (wide : Bool) (rule : SampleRule) (f : ℕ → ℕ) (xs : List ℕ) → Computes rule f → bytesOf wide (map (applied rule) xs) ≡ bytesOf wide (map f xs)
+same-samples wide rule f [] h = refl
+same-samples wide rule f (x ∷ xs) h = rw (same-bytes wide (applied rule x) (f x) (h x), same-samples wide rule f xs h)
+
+by-pixels :
+    (from to : Bool) (f : ℕ → ℕ) (src : List ℕ) → length src % pixelSize from ≡ 0
+    → bytesOf to (map f (samplesOf from src)) ≡ write to (map (each f) (read from src))
+by-pixels from to f src h = ap (bytesOf to) (sym (each-sample f (samplesOf from src) (whole-samples from src h)))
+
+-- ---- the loops of a change of depth
+module _ (from to : Depth) where
+  pub scale-changes : (line : Line) → Computes (Affine line) (changeDepth (bits from) (bits to)) → Changes from to (Scale line)
+  scale-changes line h = record { reads = refl; writes = refl; makes = λ src. same-samples true (Affine line) _ (samplesOf true src) h }
+
+  pub drop-changes : (shift : ℕ) → Computes (sample.Drop shift) (changeDepth (bits from) (bits to)) → Changes from to (Drop shift)
+  drop-changes shift h = record { reads = refl; writes = refl; makes = λ src. same-samples true (sample.Drop shift) _ (samplesOf true src) h }
+
+-- ---- the conversions, at depths that are offered
+module _ (d : Depth) where
+  pub plan-from-srgb : (line : Line) → Computes (Affine line) (fromSrgb (bits d)) → Plans (FromSrgb (bits d)) Bytes (Widen line)
+  unfolding converted
+  plan-from-srgb line h = record {
+    offered = offered-bits d;
+    coding-is = refl;
+    reads = refl;
+    writes = refl;
+    makes = λ src whole. same-samples true (Affine line) (fromSrgb (bits d)) src h ∙ by-pixels false true (fromSrgb (bits d)) src whole;
+  }
+
+  pub plan-to-srgb : (cut : Cut) → Computes (ToEight cut) (toSrgb (bits d)) → Plans (ToSrgb (bits d)) (Codes (greatest (bits d)) false) (Narrow cut)
+  unfolding converted
+  plan-to-srgb cut h = record {
+    offered = rw (offered-bits d);
+    coding-is = refl;
+    reads = refl;
+    writes = refl;
+    makes = λ src whole. same-samples false (ToEight cut) (toSrgb (bits d)) (samplesOf true src) h ∙ by-pixels true false (toSrgb (bits d)) src whole;
+  }
+
+  pub plan-change : (to : Depth) (work : Work) → Changes d to work → Plans (ChangeDepth (bits d) (bits to)) (Codes (greatest (bits d)) false) work
+  unfolding converted
+  plan-change to work h = record {
+    offered = rw (offered-bits d, offered-bits to);
+    coding-is = refl;
+    reads = sym (h .reads);
+    writes = sym (h .writes);
+    makes = λ src whole. h .makes src ∙ by-pixels true true (changeDepth (bits d) (bits to)) src whole;
+  }
+
+  pub plan-to-luma-chroma : Plans (ToLumaChroma (bits d)) (Codes (greatest (bits d)) false) (Pixels (rule.ToLumaChroma d))
+  unfolding converted
+  plan-to-luma-chroma = record { offered = rw (offered-bits d); coding-is = refl; reads = refl; writes = refl; makes = λ src whole. refl }
+
+  pub plan-from-luma-chroma : Plans (FromLumaChroma (bits d)) (Codes (greatest (bits d)) true) (Pixels (rule.ToRgb d))
+  unfolding converted
+  plan-from-luma-chroma = record { offered = rw (offered-bits d); coding-is = refl; reads = refl; writes = refl; makes = λ src whole. refl }
+
+-- ---- a conversion and a coding that are known by equations
+pub same-plan : {c c′ : Conversion} {coding coding′ : Coding} {work : Work} → c ≡ c′ → coding ≡ coding′ → Plans c′ coding′ work → Plans c coding work
+same-plan e f p = rw (e, f) p

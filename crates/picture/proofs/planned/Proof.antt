@@ -1,0 +1,214 @@
+-- `picture::planned` meets its contract: in each arm the conversion and its depths are known, and the loop is the one that does it.
+-- Assumes nothing.
+use mathlib.Core.Path.{_≡_, refl, ap, ap₂, subst, _∙_}
+use Rattle.numbers.proofs.Booleans.{and-false}
+use Rattle.esrgb.specs.Depths.{bits, offered, Names}
+use Rattle.picture.specs.declared.Conversion.the-variants.{FromSrgb, ToSrgb, ChangeDepth, ToLumaChroma, FromLumaChroma}
+use Rattle.picture.specs.Forms.{offers}
+use Rattle.picture.proofs.Planning.{same-plan, plan-from-srgb, plan-to-srgb, plan-change, plan-to-luma-chroma, plan-from-luma-chroma}
+use borrow.Author.Needs.{needs}
+use Rattle.picture.proofs.planned.Statement.{statement}
+use Rattle.picture.proofs.planned.Tie as tie
+
+enum-known-conversion : tie.Need-enum-known-conversion
+enum-known-conversion c = search needs
+
+depth-of-requires : tie.Need-depth-of-requires
+depth-of-requires c κs = search needs
+
+enum-known-n : tie.Need-enum-known-n
+enum-known-n c = search needs
+
+from-srgb-requires : tie.Need-from-srgb-requires
+from-srgb-requires c κs = search needs
+
+enum-told : tie.Need-enum-told
+enum-told c = search needs
+
+enum-known-conversion-2 : tie.Need-enum-known-conversion-2
+enum-known-conversion-2 c = search needs
+
+depth-of-requires-2 : tie.Need-depth-of-requires-2
+depth-of-requires-2 c κs = search needs
+
+enum-known-n-2 : tie.Need-enum-known-n-2
+enum-known-n-2 c = search needs
+
+codes-requires : tie.Need-codes-requires
+codes-requires c κs = search needs
+
+to-srgb-requires : tie.Need-to-srgb-requires
+to-srgb-requires c κs = search needs
+
+enum-told-2 : tie.Need-enum-told-2
+enum-told-2 c = search needs
+
+enum-known-conversion-3 : tie.Need-enum-known-conversion-3
+enum-known-conversion-3 c = search needs
+
+depth-of-requires-3 : tie.Need-depth-of-requires-3
+depth-of-requires-3 c κs = search needs
+
+enum-known-n-3 : tie.Need-enum-known-n-3
+enum-known-n-3 c = search needs
+
+depth-of-requires-4 : tie.Need-depth-of-requires-4
+depth-of-requires-4 c κs = search needs
+
+enum-known-m : tie.Need-enum-known-m
+enum-known-m c = search needs
+
+codes-requires-2 : tie.Need-codes-requires-2
+codes-requires-2 c κs = search needs
+
+change-requires : tie.Need-change-requires
+change-requires c κs = search needs
+
+enum-told-3 : tie.Need-enum-told-3
+enum-told-3 c = search needs
+
+enum-told-4 : tie.Need-enum-told-4
+enum-told-4 c = search needs
+
+enum-known-conversion-4 : tie.Need-enum-known-conversion-4
+enum-known-conversion-4 c = search needs
+
+depth-of-requires-5 : tie.Need-depth-of-requires-5
+depth-of-requires-5 c κs = search needs
+
+enum-known-n-4 : tie.Need-enum-known-n-4
+enum-known-n-4 c = search needs
+
+codes-requires-3 : tie.Need-codes-requires-3
+codes-requires-3 c κs = search needs
+
+enum-told-5 : tie.Need-enum-told-5
+enum-told-5 c = search needs
+
+enum-known-conversion-5 : tie.Need-enum-known-conversion-5
+enum-known-conversion-5 c = search needs
+
+depth-of-requires-6 : tie.Need-depth-of-requires-6
+depth-of-requires-6 c κs = search needs
+
+enum-known-n-5 : tie.Need-enum-known-n-5
+enum-known-n-5 c = search needs
+
+codes-requires-4 : tie.Need-codes-requires-4
+codes-requires-4 c κs = search needs
+
+enum-told-6 : tie.Need-enum-told-6
+enum-told-6 c = search needs
+
+returns : tie.Need-returns
+returns c =
+    let conversion = c .before .before .before .before .before .before .conversion .given in
+    let named = subst (Names (conversion .0 .0)) (c .before .before .n .given .1) (c .before .before .before .before .depth-of .ensures) in
+    same-plan (conversion .1 ∙ ap FromSrgb named) refl (plan-from-srgb (c .before .before .n .given .0 .0) _ (c .from-srgb .ensures .1))
+
+returns-2 : tie.Need-returns-2
+returns-2 c =
+    let conversion = c .before .before .before .before .conversion .given in
+    let none = subst (Names (conversion .0 .0)) (c .enum-told .given .1) (c .before .before .depth-of .ensures) in
+    ap offers (conversion .1) ∙ none
+
+returns-3 : tie.Need-returns-3
+returns-3 c =
+    let conversion = c .before .before .before .before .before .before .before .conversion2 .given in
+    let named = subst (Names (conversion .0 .0)) (c .before .before .before .n2 .given .1) (c .before .before .before .before .before .depth-of2 .ensures) in
+    same-plan (conversion .1 ∙ ap ToSrgb named) (c .before .codes .ensures) (plan-to-srgb (c .before .before .before .n2 .given .0 .0) _ (c .to-srgb .ensures .1))
+
+returns-4 : tie.Need-returns-4
+returns-4 c =
+    let conversion = c .before .before .before .before .conversion2 .given in
+    let none = subst (Names (conversion .0 .0)) (c .enum-told2 .given .1) (c .before .before .depth-of2 .ensures) in
+    ap offers (conversion .1) ∙ rw none
+
+returns-5 : tie.Need-returns-5
+returns-5 c =
+    let conversion = c .before .before .before .before .before .before .before .before .before .before .before .conversion3 .given in
+    let from-named = subst (Names (conversion .0 .0)) (c .before .before .before .before .before .before .before .n3 .given .1) (c .before .before .before .before .before .before .before .before .before .depth-of3 .ensures) in
+    let to-named = subst (Names (conversion .0 .1 .0)) (c .before .before .before .m .given .1) (c .before .before .before .before .before .depth-of4 .ensures) in
+    same-plan (conversion .1 ∙ ap₂ ChangeDepth from-named to-named) (c .before .codes2 .ensures) (plan-change _ _ _ (c .change .ensures))
+
+returns-6 : tie.Need-returns-6
+returns-6 c =
+    let conversion = c .before .before .before .before .before .before .before .before .conversion3 .given in
+    let none = subst (Names (conversion .0 .1 .0)) (c .enum-told3 .given .1) (c .before .before .depth-of4 .ensures) in
+    ap offers (conversion .1) ∙ rw none (and-false (offered (conversion .0 .0)))
+
+returns-7 : tie.Need-returns-7
+returns-7 c =
+    let conversion = c .before .before .before .before .conversion3 .given in
+    let none = subst (Names (conversion .0 .0)) (c .enum-told4 .given .1) (c .before .before .depth-of3 .ensures) in
+    ap offers (conversion .1) ∙ rw none
+
+returns-8 : tie.Need-returns-8
+returns-8 c =
+    let conversion = c .before .before .before .before .before .before .conversion4 .given in
+    let named = subst (Names (conversion .0 .0)) (c .before .before .n4 .given .1) (c .before .before .before .before .depth-of5 .ensures) in
+    same-plan (conversion .1 ∙ ap ToLumaChroma named) (c .codes3 .ensures) (plan-to-luma-chroma _)
+
+returns-9 : tie.Need-returns-9
+returns-9 c =
+    let conversion = c .before .before .before .before .conversion4 .given in
+    let none = subst (Names (conversion .0 .0)) (c .enum-told5 .given .1) (c .before .before .depth-of5 .ensures) in
+    ap offers (conversion .1) ∙ rw none
+
+returns-10 : tie.Need-returns-10
+returns-10 c =
+    let conversion = c .before .before .before .before .before .before .conversion5 .given in
+    let named = subst (Names (conversion .0 .0)) (c .before .before .n5 .given .1) (c .before .before .before .before .depth-of6 .ensures) in
+    same-plan (conversion .1 ∙ ap FromLumaChroma named) (c .codes4 .ensures) (plan-from-luma-chroma _)
+
+returns-11 : tie.Need-returns-11
+returns-11 c =
+    let conversion = c .before .before .before .before .conversion5 .given in
+    let none = subst (Names (conversion .0 .0)) (c .enum-told6 .given .1) (c .before .before .depth-of6 .ensures) in
+    ap offers (conversion .1) ∙ rw none
+
+pub planned-spec : {M : Type 1} → statement M
+planned-spec =
+    tie.close
+    (tie.spec
+    enum-known-conversion
+    depth-of-requires
+    enum-known-n
+    from-srgb-requires
+    enum-told
+    enum-known-conversion-2
+    depth-of-requires-2
+    enum-known-n-2
+    codes-requires
+    to-srgb-requires
+    enum-told-2
+    enum-known-conversion-3
+    depth-of-requires-3
+    enum-known-n-3
+    depth-of-requires-4
+    enum-known-m
+    codes-requires-2
+    change-requires
+    enum-told-3
+    enum-told-4
+    enum-known-conversion-4
+    depth-of-requires-5
+    enum-known-n-4
+    codes-requires-3
+    enum-told-5
+    enum-known-conversion-5
+    depth-of-requires-6
+    enum-known-n-5
+    codes-requires-4
+    enum-told-6
+    returns
+    returns-2
+    returns-3
+    returns-4
+    returns-5
+    returns-6
+    returns-7
+    returns-8
+    returns-9
+    returns-10
+    returns-11)

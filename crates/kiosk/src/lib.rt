@@ -2,7 +2,7 @@
 // include/kiosk.h. It promises that C gets exactly what the operation says, as a count or minus the
 // refusal's number, and exactly its bytes; it asks nothing of a caller that C's types do not say.
 use frames::step_from;
-use layout::lay_out_packed;
+use layout::lay_out;
 use linear::code_to_light;
 use linear::light_to_code;
 use picture::Conversion;
@@ -27,7 +27,6 @@ ghost use Rattle.spool.specs.Open.{openSays};
 ghost use Rattle.spool.specs.Find.{findSaid, findSays};
 ghost use Rattle.frames.specs.Walk.{nextNumber};
 ghost use Rattle.placement.specs.LayOut.{layoutSays, layoutBytes};
-ghost use Rattle.layout.specs.Packed.{recordsIn};
 ghost use Rattle.kiosk.specs.Interface.{minus, answerOf, placeOf, Gives, Converts, Countable, openAnswer, openShop, openTable, findAnswer, findRecord};
 
 // A refusal, as C gets it.
@@ -238,12 +237,16 @@ pub extern "C" fn kiosk_step(file: &[u8], next: &mut usize, frame: &mut [u8; 16]
     found_as(found, frame)
 }
 
-// Lays out a spool of records that are given as their bytes, 16 each; bytes that make no whole record are
-// not looked at.
+// Lays out a spool of records. Their offsets are not looked at.
 #[no_mangle]
-pub extern "C" fn kiosk_lay_out(records: &[u8], shop: u16, dst: &mut [u8], place: &mut usize) -> i64
-    ensures { λ r. ⌜ Gives (layoutSays (recordsIn (now (records .entry))) (length (now (dst .entry)))) (layoutBytes (recordsIn (now (records .entry))) shop (now (dst .entry))) r (now (dst .entry)) (now (dst .exit)) (now (place .entry)) (now (place .exit)) ⌝ }
+pub extern "C" fn kiosk_lay_out(
+    records: &[FrameRecord],
+    shop: u16,
+    dst: &mut [u8],
+    place: &mut usize,
+) -> i64
+    ensures { λ r. ⌜ Gives (layoutSays (now (records .entry)) (length (now (dst .entry)))) (layoutBytes (now (records .entry)) shop (now (dst .entry))) r (now (dst .entry)) (now (dst .exit)) (now (place .entry)) (now (place .exit)) ⌝ }
 {
-    let answer = lay_out_packed(records, shop, dst);
+    let answer = lay_out(records, shop, dst);
     answered(answer, place)
 }

@@ -1,2 +1,1 @@
 pub mod RoundTrip
-pub mod Packed

@@ -1,21 +1,17 @@
-// Laying out a spool from a lent list of records, or from records packed as bytes: a pass that
-// checks, the header, and a pass that writes, by the steps of `placement`. It promises document 01's
-// refusals in document 01's order, and every byte of the destination; it asks nothing of a caller.
+// Laying out a spool from a lent list of records: a pass that checks, the header, and a pass that
+// writes, by the steps of `placement`. It promises the refusals of rule 7.8 in that rule's order, and
+// every byte of the destination; it asks nothing of a caller.
 use placement::Progress;
 use placement::ready;
 use placement::unchecked;
 use placement::visit;
 use records::FrameRecord;
-use records::RECORD_SIZE;
-use records::RecordRead;
-use records::read_record;
 use refusal::Answer;
 ghost use mathlib.Core.Path.{_≡_};
 ghost use lib.ListN.{length};
 ghost use Rattle.refusal.specs.Answers.{said, leaves};
 ghost use Rattle.placement.specs.LayOut.{layoutSays, layoutBytes};
 ghost use Rattle.placement.specs.HowLaidOut.{stateOf, walked};
-ghost use Rattle.layout.specs.Packed.{recordsIn};
 
 // The one loop over the lent records: each is read by value and visited.
 fn pass(records: &[FrameRecord], dst: &mut [u8], start: Progress) -> Progress
@@ -41,41 +37,4 @@ pub fn lay_out(records: &[FrameRecord], shop: u16, dst: &mut [u8]) -> Answer
     let next = ready(checked, records.len(), shop, &mut *dst);
     let ended = pass(records, &mut *dst, next);
     ended.answer
-}
-
-// The same pass over packed records. No record of the count is ever short, which the proof shows.
-fn pass_packed(records: &[u8], dst: &mut [u8], start: Progress) -> Progress
-    ensures { λ r. ⌜ stateOf r (now (dst .exit)) ≡ walked (recordsIn (now (records .entry))) 0 (stateOf start (now (dst .entry))) ⌝ }
-{
-    let count = records.len() / RECORD_SIZE;
-    let mut progress = start;
-    let mut place = 0;
-    while place < count {
-        let at = RECORD_SIZE * place;
-        let read = read_record(records, at);
-        match read {
-            RecordRead::Record(frame) => {
-                progress = visit(dst, progress, place, frame);
-            }
-            RecordRead::Short => {
-                return progress;
-            }
-        }
-        place += 1;
-    }
-    progress
-}
-
-// Lays out a spool of packed records, for callers that cannot lend structs. Bytes behind the last
-// whole record are not looked at.
-pub fn lay_out_packed(records: &[u8], shop: u16, dst: &mut [u8]) -> Answer
-    ensures answer { λ r. ⌜ said r ≡ layoutSays (recordsIn (now (records .entry))) (length (now (dst .entry))) ⌝ }
-    ensures bytes { λ _. ⌜ now (dst .exit) ≡ leaves (layoutSays (recordsIn (now (records .entry))) (length (now (dst .entry)))) (layoutBytes (recordsIn (now (records .entry))) shop (now (dst .entry))) (now (dst .entry)) ⌝ }
-{
-    let start = unchecked();
-    let checked = pass_packed(records, dst, start);
-    let next = ready(checked, records.len() / RECORD_SIZE, shop, dst);
-    let ended = pass_packed(records, dst, next);
-    let answer = ended.answer;
-    answer
 }

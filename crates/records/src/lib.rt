@@ -36,6 +36,7 @@ pub struct Header {
 }
 
 // A frame's record, its numbers in the order in which they stand in the file.
+#[repr(C)]
 pub struct FrameRecord {
     pub offset: u32,
     pub width: u16,

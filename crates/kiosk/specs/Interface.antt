@@ -4,7 +4,7 @@
 use Prim.Native.Nat.{ℕ, _^_, _<_}
 use mathlib.Core.Path.{_≡_}
 use mathlib.Core.List.{List}
-use lib.ListN.{length}
+use lib.ListN.{length, getD}
 use lib.IntN.{ℤ, pos, negℤ}
 use Rattle.refusal.specs.Answers.{Said, accepted, refused, refusedAt, leaves}
 use Rattle.records.specs.Layout.{recordBytes}
@@ -38,6 +38,10 @@ pub record Gives {A : Type 0} (says : Said) (new : List A) (r : ℤ) (dst dst′
 -- The same of a conversion.
 abbrev pub Converts : Conversion → List ℕ → ℤ → List ℕ → List ℕ → ℕ → ℕ → Type 0
 Converts c src r dst dst′ place place′ = Gives (convertSays c src (length dst)) (converted c src) r dst dst′ place place′
+
+-- The same of call k of several, whose answers and places are in arrays.
+abbrev pub ConvertsAt : ℕ → Conversion → List ℕ → List ℕ → List ℕ → List ℤ → List ℕ → List ℕ → Type 0
+ConvertsAt k c src dst dst′ answers places places′ = Converts c src (getD answers k (pos 0)) dst dst′ (getD places k 0) (getD places′ k 0)
 
 -- A count that a signed number of 64 bits holds.
 abbrev pub Countable : Said → Type 0

@@ -5,6 +5,8 @@ use frames::step_from;
 use layout::lay_out;
 use linear::code_to_light;
 use linear::light_to_code;
+use listing::LISTING_ROOM;
+use listing::write_listing;
 use picture::Conversion;
 use picture::convert;
 use records::FrameRecord;
@@ -13,13 +15,15 @@ use records::record_bytes;
 use refusal::Answer;
 use refusal::Refusal;
 use refusal::number;
+use roundtrip::both_runs;
 use roundtrip::round_trip;
 use spool::Found;
 use spool::Opened;
 use spool::find;
 use spool::open;
 ghost use mathlib.Core.Path.{_≡_};
-ghost use lib.ListN.{length};
+ghost use Prim.Native.Nat.{_≤_};
+ghost use lib.ListN.{length, take};
 ghost use Rattle.refusal.specs.Refusals.{numberOf};
 ghost use Rattle.refusal.specs.Answers.{said, leaves};
 ghost use Rattle.linear.specs.Operations.{codesToLightSays, codesToLight, lightToCodesSays, lightToCodes};
@@ -27,7 +31,9 @@ ghost use Rattle.spool.specs.Open.{openSays};
 ghost use Rattle.spool.specs.Find.{findSaid, findSays};
 ghost use Rattle.frames.specs.Walk.{nextNumber};
 ghost use Rattle.placement.specs.LayOut.{layoutSays, layoutBytes};
-ghost use Rattle.kiosk.specs.Interface.{minus, answerOf, placeOf, Gives, Converts, Countable, openAnswer, openShop, openTable, findAnswer, findRecord};
+ghost use Rattle.listing.specs.Text.{written};
+ghost use Rattle.listing.specs.Listing.{listing};
+ghost use Rattle.kiosk.specs.Interface.{minus, answerOf, placeOf, Gives, Converts, ConvertsAt, Countable, openAnswer, openShop, openTable, findAnswer, findRecord};
 
 // A refusal, as C gets it.
 fn refused(refusal: Refusal) -> i64
@@ -168,6 +174,61 @@ pub extern "C" fn kiosk_round_trip(
     answered(first, place)
 }
 
+// An answer as C gets it, with the place behind it.
+struct AnswerAndPlace {
+    answer: i64,
+    place: usize,
+}
+
+// The same by value: the place that the answer has, or else the one that is given.
+fn told(answer: Answer, place: usize) -> AnswerAndPlace
+    requires { ⌜ Countable (said answer) ⌝ }
+    ensures { λ r. ⌜ (r .answer ≡ answerOf (said answer)) × (r .place ≡ placeOf (said answer) place) ⌝ }
+{
+    let mut at = place;
+    let value = answered(answer, &mut at);
+    AnswerAndPlace {
+        answer: value,
+        place: at,
+    }
+}
+
+// Both runs of an sRGB picture (rule 5.2), five calls of Convert: to codes, those to luma and chroma and
+// back, then both pictures of codes to 8 bits. `answers` and `places` are filled in the order of the calls.
+#[no_mangle]
+pub extern "C" fn kiosk_both_runs(
+    depth: u32,
+    picture: &[u8],
+    codes: &mut [u8],
+    ycc: &mut [u8],
+    back: &mut [u8],
+    direct: &mut [u8],
+    round: &mut [u8],
+    answers: &mut [i64; 5],
+    places: &mut [usize; 5],
+)
+    ensures made { λ _. ⌜ ConvertsAt 0 (Conversion.FromSrgb depth) (now (picture .entry)) (now (codes .entry)) (now (codes .exit)) (now (answers .exit)) (now (places .entry)) (now (places .exit)) ⌝ }
+    ensures there { λ _. ⌜ ConvertsAt 1 (Conversion.ToLumaChroma depth) (now (codes .exit)) (now (ycc .entry)) (now (ycc .exit)) (now (answers .exit)) (now (places .entry)) (now (places .exit)) ⌝ }
+    ensures again { λ _. ⌜ ConvertsAt 2 (Conversion.FromLumaChroma depth) (now (ycc .exit)) (now (back .entry)) (now (back .exit)) (now (answers .exit)) (now (places .entry)) (now (places .exit)) ⌝ }
+    ensures direct { λ _. ⌜ ConvertsAt 3 (Conversion.ToSrgb depth) (now (codes .exit)) (now (direct .entry)) (now (direct .exit)) (now (answers .exit)) (now (places .entry)) (now (places .exit)) ⌝ }
+    ensures round { λ _. ⌜ ConvertsAt 4 (Conversion.ToSrgb depth) (now (back .exit)) (now (round .entry)) (now (round .exit)) (now (answers .exit)) (now (places .entry)) (now (places .exit)) ⌝ }
+{
+    let runs = both_runs(depth, picture, codes, ycc, back, direct, round);
+    let before = *places;
+    let made = runs.made;
+    let there = runs.there;
+    let again = runs.again;
+    let straight = runs.direct;
+    let around = runs.round;
+    let a = told(made, before[0]);
+    let b = told(there, before[1]);
+    let c = told(again, before[2]);
+    let d = told(straight, before[3]);
+    let e = told(around, before[4]);
+    *answers = [a.answer, b.answer, c.answer, d.answer, e.answer];
+    *places = [a.place, b.place, c.place, d.place, e.place];
+}
+
 // ---- the spool
 
 // Opens a spool: its frame count; shop and table offset through the pointers.
@@ -249,4 +310,14 @@ pub extern "C" fn kiosk_lay_out(
 {
     let answer = lay_out(records, shop, dst);
     answered(answer, place)
+}
+
+// The listing of a spool as text (rule 9): its length, from the buffer's start on.
+#[no_mangle]
+pub extern "C" fn kiosk_listing(file: &[u8], text: &mut [u8; LISTING_ROOM]) -> usize
+    ensures whole { λ r. ⌜ take r (now (text .exit)) ≡ listing (now (file .entry)) ⌝ }
+    ensures within { λ r. ⌜ r ≤ length (now (text .exit)) ⌝ }
+    ensures buffer { λ r. ⌜ record { bytes = now (text .exit); at = r } ≡ written (record { bytes = now (text .entry); at = 0 }) (listing (now (file .entry))) ⌝ }
+{
+    write_listing(file, text)
 }

@@ -12,6 +12,10 @@ fn show(n: u64) {
     io::print_decimal(STDOUT_FILENO, n);
 }
 
+fn show_byte(byte: u8) {
+    show(byte as u64);
+}
+
 fn end_line() {
     io::write_all(STDOUT_FILENO, b"\n");
 }
@@ -43,6 +47,47 @@ fn patch_row(light: i32, printed: u64) {
     show(printed);
     show(code_of(10, light));
     show(code_of(12, light));
+    end_line();
+}
+
+// A pixel of two bytes a sample.
+fn show_pixel(pixel: &[u8; 6]) {
+    show(numbers::from_two(pixel[0], pixel[1]) as u64);
+    show(numbers::from_two(pixel[2], pixel[3]) as u64);
+    show(numbers::from_two(pixel[4], pixel[5]) as u64);
+}
+
+// A pixel of sRGB.
+fn show_srgb(pixel: &[u8; 3]) {
+    show_byte(pixel[0]);
+    show_byte(pixel[1]);
+    show_byte(pixel[2]);
+}
+
+// Both runs of the blue of sRGB: its codes, their luma and chroma, the codes that come back, and both at 8 bits.
+fn runs_row(depth: u32) {
+    let blue = [0u8, 0, 255];
+    let mut codes = [0u8; 6];
+    let mut ycc = [0u8; 6];
+    let mut back = [0u8; 6];
+    let mut direct = [0u8; 3];
+    let mut round = [0u8; 3];
+    roundtrip::both_runs(
+        depth,
+        &blue,
+        &mut codes,
+        &mut ycc,
+        &mut back,
+        &mut direct,
+        &mut round,
+    );
+    io::write_all(STDOUT_FILENO, b"runs");
+    show(depth as u64);
+    show_pixel(&codes);
+    show_pixel(&ycc);
+    show_pixel(&back);
+    show_srgb(&direct);
+    show_srgb(&round);
     end_line();
 }
 
@@ -100,6 +145,8 @@ fn frames_row(low: u8, high: u8) {
 fn main() {
     depth_row(10, 12, 255, 3);
     depth_row(12, 10, 3, 6);
+    runs_row(10);
+    runs_row(12);
     width_row(0, 32);
     width_row(1, 32);
     frames_row(255, 0);

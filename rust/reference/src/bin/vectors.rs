@@ -23,6 +23,19 @@ fn main() {
             samples::change_depth(from, to, code)
         );
     }
+    let blue = [0, 0, 255];
+    for depth in [10, 12] {
+        let codes = blue.map(|sample| samples::from_srgb(depth, sample));
+        let ycc = samples::to_luma_chroma(depth, codes);
+        let back = samples::from_luma_chroma(depth, ycc);
+        let [direct, round] =
+            [codes, back].map(|pixel| pixel.map(|code| samples::to_srgb(depth, code)));
+        let row = [codes, ycc, back, direct, round].concat();
+        println!(
+            "runs {depth} {}",
+            row.iter().map(i64::to_string).collect::<Vec<_>>().join(" ")
+        );
+    }
     for width in [8192, 8193] {
         let file = spool_with(1, width, 28 + 3 * 8192);
         let refusal = spool::find(&file, 0).map_or_else(|refusal| refusal.number, |_| 0);

@@ -6,26 +6,14 @@ use borrow.Author.Needs.{needs}
 use Rattle.list.proofs.main.Statement.{statement}
 use Rattle.list.proofs.main.Tie as tie
 
-slice-aggregate-read-full : tie.Need-slice-aggregate-read-full
-slice-aggregate-read-full c = search needs
+slice-aggregate-read-input : tie.Need-slice-aggregate-read-input
+slice-aggregate-read-input c = search needs
 
-read-full-requires : tie.Need-read-full-requires
-read-full-requires c κs = search needs
-
-array-share-prefix-file : tie.Need-array-share-prefix-file
-array-share-prefix-file c = search needs
-
-slice-aggregate-list : tie.Need-slice-aggregate-list
-slice-aggregate-list c = search needs
-
-list-requires : tie.Need-list-requires
-list-requires c κs = search needs
-
-array-share-prefix-text : tie.Need-array-share-prefix-text
-array-share-prefix-text c = search needs
+read-input-requires : tie.Need-read-input-requires
+read-input-requires c κs = search needs
 
 slice-aggregate-write-all : tie.Need-slice-aggregate-write-all
-slice-aggregate-write-all c = sym (length-take-le _ _ (c .before .list .ensures .1))
+slice-aggregate-write-all c = search needs
 
 write-all-requires : tie.Need-write-all-requires
 write-all-requires c κs = search needs
@@ -33,16 +21,52 @@ write-all-requires c κs = search needs
 returns : tie.Need-returns
 returns c = search needs
 
+array-share-prefix-file : tie.Need-array-share-prefix-file
+array-share-prefix-file c = search needs
+
+slice-aggregate-list : tie.Need-slice-aggregate-list
+slice-aggregate-list c = sym (length-take-le _ _ (c .before .before .before .before .read-input .ensures))
+
+list-requires : tie.Need-list-requires
+list-requires c κs = search needs
+
+array-share-prefix-text : tie.Need-array-share-prefix-text
+array-share-prefix-text c = search needs
+
+slice-aggregate-write-all-2 : tie.Need-slice-aggregate-write-all-2
+slice-aggregate-write-all-2 c = sym (length-take-le _ _ (c .before .list .ensures .1))
+
+write-all-requires-2 : tie.Need-write-all-requires-2
+write-all-requires-2 c κs = search needs
+
+slice-aggregate-write-all-3 : tie.Need-slice-aggregate-write-all-3
+slice-aggregate-write-all-3 c = search needs
+
+write-all-requires-3 : tie.Need-write-all-requires-3
+write-all-requires-3 c κs = search needs
+
+returns-2 : tie.Need-returns-2
+returns-2 c = search needs
+
+returns-3 : tie.Need-returns-3
+returns-3 c = search needs
+
 pub main-spec : {M : Type 1} → statement M
 main-spec =
     tie.close
     (tie.spec
-    slice-aggregate-read-full
-    read-full-requires
+    slice-aggregate-read-input
+    read-input-requires
+    slice-aggregate-write-all
+    write-all-requires
+    returns
     array-share-prefix-file
     slice-aggregate-list
     list-requires
     array-share-prefix-text
-    slice-aggregate-write-all
-    write-all-requires
-    returns)
+    slice-aggregate-write-all-2
+    write-all-requires-2
+    slice-aggregate-write-all-3
+    write-all-requires-3
+    returns-2
+    returns-3)

@@ -7,10 +7,8 @@ use native.Mathlib.Omega.{arith}
 use native.Mathlib.Nat.{lt-of-le-of-lt, lt-of-lt-of-le, mul-assoc, mul-right-comm, mul-le-mul-left, mul-le-mul-right, mul-lt-mul-of-pos-right, pow-le-pow-left}
 use borrow.Author.Tests.{lt-leb}
 use lib.Dec.{lit<}
-use Rattle.esrgb.specs.Depths.{offset}
-use Rattle.esrgb.proofs.Scale.{Scale}
 use Rattle.transfer.specs.Search.{lastPassing}
-use Rattle.transfer.specs.Light.{scale, reachesLight, greatestLight}
+use Rattle.transfer.specs.Light.{reachesLight, greatestLight}
 use Rattle.transfer.specs.Level.{reachesLevel, beyondLevels}
 use Rattle.transfer.proofs.Search.{last-beyond}
 use Rattle.transfer.proofs.Light.{reaches-light-falls}
@@ -29,10 +27,6 @@ light-fails S v s h =
 
 pub light-bound : (S v b : ℕ) → zero < S → v ≤ 3 * S → greatestLight ≤ b → lastPassing (reachesLight S v) b ≡ lastPassing (reachesLight S v) greatestLight
 light-bound S v b s h l = last-beyond (reachesLight S v) (reaches-light-falls S v) greatestLight (light-fails S v s h) b l
-
--- The levels of codes are such, on both sides of the offset.
-pub levels-in-bound : (n code : ℕ) → Scale n → code < 2 ^ n → (code - offset n ≤ 3 * scale n) × (offset n - code ≤ 3 * scale n)
-levels-in-bound n code s h = (omega arith, omega arith)
 
 -- ---- light to code, at every light of 32 bits
 level-fails : (S q : ℕ) → zero < S → q ≤ 2 ^ 31 → reachesLevel S q (beyondLevels S) ≡ false

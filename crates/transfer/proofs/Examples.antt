@@ -38,11 +38,3 @@ code-examples = (
   ap (λ (w : ℕ). min 4095 (offset 12 + w)) (level-is (scale 12) 3130 82 refl refl),
   ap (λ (w : ℕ). min 4095 (offset 12 + w)) (level-is (scale 12) 3131 83 refl refl),
 )
-
--- The least and the greatest light of 32 bits are clipped.
-pub clip-examples : (codeOfLight 10 (negsuc 2147483647) ≡ 0) × (codeOfLight 10 (pos 2147483647) ≡ 1023)
-unfolding codeOfLight nearest reachesLevel isFrom isBelow
-clip-examples = (
-  ap (λ (w : ℕ). offset 10 - w) (level-is (scale 10) 2147483648 13128 refl refl),
-  ap (λ (w : ℕ). min 1023 (offset 10 + w)) (level-is (scale 10) 2147483647 13128 refl refl),
-)

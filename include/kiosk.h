@@ -2,19 +2,30 @@
  * kiosk.h: colour pictures and spool files for photo kiosks, from the proved library.
  *
  * Link with libkiosk.a, which `rt staticlib kiosk` writes to target/staticlib/. x86-64 Linux only.
+ * Rules are cited by their numbers in docs/RULES.md.
  *
  * Answers. A function that returns int64_t gives a count of 0 or more, or minus the number of a
- * refusal (enum kiosk_refusal). A refused call changes no destination.
+ * refusal (enum kiosk_refusal). A refused call changes no destination. kiosk_round_trip and
+ * kiosk_both_runs make several conversions, and of these it holds one by one: each is accepted or
+ * refused by itself, and one that is accepted writes, also after one that was refused.
  *
- * Buffers are a pointer and a length: bytes for uint8_t, numbers for int32_t. A destination has
- * exactly the length needed, and overlaps no other argument. A buffer of length 0 still needs a
- * pointer that is not null; it is not read.
+ * Buffers are a pointer and a length: bytes for uint8_t, numbers for int32_t, records for struct
+ * kiosk_record. A destination may have any length; unless it is the one needed, it is refused with 11.
+ * A buffer of length 0 is neither read nor written, but its pointer is not null.
  *
- * Pointers may not be null. `place` is written by the refusals that have a place, and otherwise
- * keeps what it held.
+ * `place` and `places` are written by the refusals that have a place, and otherwise keep what they
+ * held.
  *
- * Pixels are three samples, row by row. A sample is one byte at 8 bits, else two, the low byte
- * first. Depths offered are 10, 12 and 16, for linear light 10 and 12; any number may be asked for.
+ * What no function can check, and each relies on:
+ * - No pointer is null. Behind it is all that its length or its type says, aligned as C asks.
+ * - What is written overlaps nothing else that the call is given. This goes for destinations and for
+ *   place, again, again_place, answers, places, shop, table, next, record and text.
+ * - A buffer is shorter than 2^63 bytes.
+ * - During a call nobody else writes what the call is given, or reads what it writes.
+ *
+ * Pixels are three samples, row by row (rules 3.1, 3.2). Samples of 8 bits are single bytes; all
+ * others take two, the low one first. Depths offered are 10, 12 and 16, for linear light 10 and 12; any
+ * other may be asked for and is refused with 9.
  */
 #ifndef KIOSK_H
 #define KIOSK_H
@@ -26,7 +37,7 @@
 extern "C" {
 #endif
 
-/* Why an operation refuses. The functions return minus this number. */
+/* Why an operation refuses (rule 8). The functions return minus this number. */
 enum kiosk_refusal {
     KIOSK_TOO_SHORT = 1,          /* a spool shorter than its header */
     KIOSK_WRONG_LENGTH = 2,       /* the length in the header is not the file's */
@@ -42,10 +53,10 @@ enum kiosk_refusal {
     KIOSK_SAMPLE_TOO_GREAT = 12,  /* a sample above the greatest of its depth; place: its byte offset */
     KIOSK_CHROMA_ZERO = 13,       /* a chroma of code 0; place: its byte offset */
     KIOSK_TOTAL_TOO_LONG = 14,    /* a spool longer than 4,294,967,295 bytes */
-    KIOSK_INPUT_TOO_LONG = 15     /* more input than the listing program takes; no function gives it */
+    KIOSK_INPUT_TOO_LONG = 15     /* a file too long for the listing: only its text says so */
 };
 
-/* What a frame's pixels are. */
+/* What a frame's pixels are (rule 7.3). */
 enum kiosk_kind {
     KIOSK_SRGB = 1,       /* 8 bits */
     KIOSK_ESRGB = 2,      /* 10, 12 or 16 bits */
@@ -63,7 +74,7 @@ struct kiosk_record {
     uint32_t order;
 };
 
-/* ---- Pictures. Each gives the pixel count, or refuses with 9, 10, 11, 12 or 13. ---- */
+/* ---- Pictures (rule 4). A conversion gives the pixel count, or refuses with 9, 10, 11, 12 or 13. ---- */
 
 /* Converts 8-bit sRGB to e-sRGB of the given depth. */
 int64_t kiosk_from_srgb(uint32_t depth, const uint8_t *src, size_t src_len,
@@ -85,13 +96,23 @@ int64_t kiosk_to_luma_chroma(uint32_t depth, const uint8_t *src, size_t src_len,
 int64_t kiosk_from_luma_chroma(uint32_t depth, const uint8_t *src, size_t src_len,
                                uint8_t *dst, size_t dst_len, size_t *place);
 
-/* Converts e-sRGB to luma and chroma in `ycc`, and `ycc` back to e-sRGB in `back`. Returns the
- * first conversion's answer; *again gets the second's, and each has a place of its own. */
+/* Two conversions (rule 5.1): e-sRGB to luma and chroma in `ycc`, and `ycc` back to e-sRGB in `back`.
+ * Returns the first one's answer; *again gets the second's, and each has a place of its own. The second
+ * is made also if the first is refused: it then converts what `ycc` held. */
 int64_t kiosk_round_trip(uint32_t depth, const uint8_t *codes, size_t codes_len,
                          uint8_t *ycc, size_t ycc_len, uint8_t *back, size_t back_len,
                          size_t *place, int64_t *again, size_t *again_place);
 
-/* ---- Linear light, in signed millionths of reference white. Each gives the pixel count. ---- */
+/* Five conversions (rule 5.2), in this order: the sRGB `picture` to e-sRGB in `codes`; `codes` to luma
+ * and chroma in `ycc`; `ycc` back to e-sRGB in `back`; `codes` to 8-bit sRGB in `direct`; `back` to 8-bit
+ * sRGB in `round`. answers[k] gets the answer of number k, from 0, and places[k] its place. All five are
+ * made: behind a refused one the others convert what its destination held. */
+void kiosk_both_runs(uint32_t depth, const uint8_t *picture, size_t picture_len,
+                     uint8_t *codes, size_t codes_len, uint8_t *ycc, size_t ycc_len,
+                     uint8_t *back, size_t back_len, uint8_t *direct, size_t direct_len,
+                     uint8_t *round, size_t round_len, int64_t answers[5], size_t places[5]);
+
+/* ---- Linear light (rule 6), in signed millionths of reference white. Each gives the pixel count. ---- */
 
 /* Converts e-sRGB codes to light: dst_len counts numbers. Refuses with 9, 10, 11 or 12. */
 int64_t kiosk_code_to_light(uint32_t depth, const uint8_t *src, size_t src_len,
@@ -101,7 +122,7 @@ int64_t kiosk_code_to_light(uint32_t depth, const uint8_t *src, size_t src_len,
 int64_t kiosk_light_to_code(uint32_t depth, const int32_t *src, size_t src_len,
                             uint8_t *dst, size_t dst_len);
 
-/* ---- Spool files ---- */
+/* ---- Spool files (rule 7) ---- */
 
 /* Opens a spool: gives the frame count, and *shop and *table (the offset of the record table). Refuses
  * with 1 to 4, and then both keep what they held. */
@@ -117,10 +138,18 @@ int64_t kiosk_step(const uint8_t *file, size_t file_len, size_t *next, struct ki
 
 /* Lays out a spool in dst: writes the header and the record table, with the pixels of the frames one
  * after another behind it, and leaves the pixel bytes as found. The records' own offsets are ignored;
- * records_len counts bytes, 16 to a record, and bytes that make no whole record are not looked at. Gives
- * the total length. Refuses with 3, with 6 or 7, whose place is the number of the record, with 14 or 11. */
+ * records_len counts records. Gives the total length. Refuses with 3, with 6 or 7, whose place is the
+ * number of the record, with 14 or 11. */
 int64_t kiosk_lay_out(const struct kiosk_record *records, size_t records_len, uint16_t shop,
                       uint8_t *dst, size_t dst_len, size_t *place);
+
+/* The bytes that are lent for a listing. Every listing fits. */
+#define KIOSK_LISTING_ROOM 16384
+
+/* Writes the listing of a spool file (rules 9.1 to 9.4) at the start of `text` and gives its length; the
+ * bytes behind it stay. No 0 ends the text. A file that does not open has the listing `refused` with the
+ * number, and one longer than 65,536 bytes `refused 15`. */
+size_t kiosk_listing(const uint8_t *file, size_t file_len, uint8_t text[KIOSK_LISTING_ROOM]);
 
 #ifdef __cplusplus
 }

@@ -53,6 +53,23 @@ mod c {
             again: *mut i64,
             again_place: *mut usize,
         ) -> i64;
+        pub fn kiosk_both_runs(
+            depth: u32,
+            picture: *const u8,
+            picture_len: usize,
+            codes: *mut u8,
+            codes_len: usize,
+            ycc: *mut u8,
+            ycc_len: usize,
+            back: *mut u8,
+            back_len: usize,
+            direct: *mut u8,
+            direct_len: usize,
+            round: *mut u8,
+            round_len: usize,
+            answers: *mut [i64; 5],
+            places: *mut [usize; 5],
+        );
         pub fn kiosk_code_to_light(
             depth: u32,
             src: *const u8,
@@ -90,8 +107,16 @@ mod c {
             dst_len: usize,
             place: *mut usize,
         ) -> i64;
+        pub fn kiosk_listing(
+            file: *const u8,
+            file_len: usize,
+            text: *mut [u8; super::LISTING_ROOM],
+        ) -> usize;
     }
 }
+
+/// The bytes that are lent for a listing: the header's KIOSK_LISTING_ROOM.
+const LISTING_ROOM: usize = 16_384;
 
 /// What a call gives: its answer, and the place if it wrote one.
 pub struct Given {
@@ -167,6 +192,41 @@ pub fn round_trip(depth: u32, codes: &[u8], ycc: &mut [u8], back: &mut [u8]) -> 
     (given(answer, place), given(again, again_place))
 }
 
+/// What the five conversions of both runs give, in the order in which they are made.
+pub fn both_runs(
+    depth: u32,
+    picture: &[u8],
+    codes: &mut [u8],
+    ycc: &mut [u8],
+    back: &mut [u8],
+    direct: &mut [u8],
+    round: &mut [u8],
+) -> [Given; 5] {
+    let mut answers = [0; 5];
+    let mut places = [UNWRITTEN; 5];
+    // SAFETY: the pointers and lengths are those of six slices that do not overlap, and of locals.
+    unsafe {
+        c::kiosk_both_runs(
+            depth,
+            picture.as_ptr(),
+            picture.len(),
+            codes.as_mut_ptr(),
+            codes.len(),
+            ycc.as_mut_ptr(),
+            ycc.len(),
+            back.as_mut_ptr(),
+            back.len(),
+            direct.as_mut_ptr(),
+            direct.len(),
+            round.as_mut_ptr(),
+            round.len(),
+            &mut answers,
+            &mut places,
+        );
+    }
+    std::array::from_fn(|k| given(answers[k], places[k]))
+}
+
 pub fn code_to_light(depth: u32, src: &[u8], dst: &mut [i32]) -> Given {
     let (s, n, d, m) = (src.as_ptr(), src.len(), dst.as_mut_ptr(), dst.len());
     // SAFETY: as of `convert`; the destination's length counts numbers.
@@ -207,13 +267,15 @@ pub fn step(file: &[u8], next: &mut usize) -> (i64, Record) {
 }
 
 pub fn lay_out(records: &[Record], shop: u16, dst: &mut [u8]) -> Given {
-    let (r, n, d, m) = (
-        records.as_ptr(),
-        size_of_val(records),
-        dst.as_mut_ptr(),
-        dst.len(),
-    );
-    // SAFETY: a record is 16 bytes with no padding, so the records' bytes are those of the slice; it does
+    let (r, n, d, m) = (records.as_ptr(), records.len(), dst.as_mut_ptr(), dst.len());
+    // SAFETY: a record is 16 bytes with no padding, as in C, and the length counts records; the slice does
     // not overlap the destination.
     placed(|place| unsafe { c::kiosk_lay_out(r, n, shop, d, m, place) })
+}
+
+pub fn listing(file: &[u8]) -> Vec<u8> {
+    let mut text = [0; LISTING_ROOM];
+    // SAFETY: the pointer and length are those of a slice, and the text is a local of the length asked for.
+    let length = unsafe { c::kiosk_listing(file.as_ptr(), file.len(), &mut text) };
+    text[..length].to_vec()
 }

@@ -1,5 +1,6 @@
 //! Colour pictures and spool files for photo kiosks: a safe wrapper of the proved library. Buffers are
-//! slices, an answer is a `Result`, and a refused call leaves its destination as it was.
+//! slices, an answer is a `Result`, and a refused conversion leaves its destination as it was. Numbers of
+//! rules are those of docs/RULES.md.
 
 #![deny(unsafe_code)]
 
@@ -30,7 +31,9 @@ impl Conversion {
         match self {
             Conversion::FromSrgb { .. } => bytes.saturating_mul(2),
             Conversion::ToSrgb { .. } => bytes / 2,
-            _ => bytes,
+            Conversion::ChangeDepth { .. }
+            | Conversion::ToLumaChroma { .. }
+            | Conversion::FromLumaChroma { .. } => bytes,
         }
     }
 }
@@ -57,12 +60,46 @@ pub struct RoundTrip {
     pub again: Result<usize, Refusal>,
 }
 
-/// Converts e-sRGB codes to luma and chroma in `ycc`, and `ycc` back to codes in `back`.
+/// Converts e-sRGB codes to luma and chroma in `ycc`, and `ycc` back to codes in `back` (rule 5.1). The second
+/// conversion is made also if the first is refused: it then converts what `ycc` held.
 pub fn round_trip(depth: u32, codes: &[u8], ycc: &mut [u8], back: &mut [u8]) -> RoundTrip {
     let (there, again) = calls::round_trip(depth, codes, ycc, back);
     RoundTrip {
         there: counted(there),
         again: counted(again),
+    }
+}
+
+/// What the five conversions of both runs give, each under the name of its destination.
+#[derive(Clone, Copy, Debug, PartialEq, Eq)]
+pub struct BothRuns {
+    pub codes: Result<usize, Refusal>,
+    pub ycc: Result<usize, Refusal>,
+    pub back: Result<usize, Refusal>,
+    pub direct: Result<usize, Refusal>,
+    pub round: Result<usize, Refusal>,
+}
+
+/// Converts an sRGB picture to e-sRGB in `codes`, these to luma and chroma in `ycc`, those back to e-sRGB in
+/// `back`, then `codes` to 8-bit sRGB in `direct` and `back` to 8-bit sRGB in `round` (rule 5.2). All five
+/// conversions are made: behind a refused one the others convert what its destination held.
+pub fn both_runs(
+    depth: u32,
+    picture: &[u8],
+    codes: &mut [u8],
+    ycc: &mut [u8],
+    back: &mut [u8],
+    direct: &mut [u8],
+    round: &mut [u8],
+) -> BothRuns {
+    let [codes, ycc, back, direct, round] =
+        calls::both_runs(depth, picture, codes, ycc, back, direct, round).map(counted);
+    BothRuns {
+        codes,
+        ycc,
+        back,
+        direct,
+        round,
     }
 }
 
@@ -162,4 +199,13 @@ impl<'a> Frames<'a> {
 /// own offsets are ignored.
 pub fn lay_out(records: &[Record], shop: u16, dst: &mut [u8]) -> Result<usize, Refusal> {
     counted(calls::lay_out(records, shop, dst))
+}
+
+/// The most bytes of a file that is listed (rule 9.1).
+pub const LISTING_LIMIT: usize = 65_536;
+
+/// The listing of a spool file as text (rules 9.1 to 9.4): a heading and a line for each frame, or `refused` and
+/// the number where the file does not open or has more than [`LISTING_LIMIT`] bytes.
+pub fn listing(file: &[u8]) -> String {
+    String::from_utf8(calls::listing(file)).expect("the library's listing is plain text")
 }

@@ -3,7 +3,7 @@
 use std::error::Error;
 use std::fmt;
 
-/// Why an operation refuses, in the order of document 01's numbers.
+/// Why an operation refuses, in the order of the numbers (rule 8).
 #[derive(Clone, Copy, Debug, PartialEq, Eq, PartialOrd, Ord)]
 pub enum Fault {
     TooShort = 1,
@@ -43,9 +43,14 @@ impl Fault {
         Fault::InputTooLong,
     ];
 
-    /// Document 01's number.
+    /// The number of the refusal.
     pub fn number(self) -> u8 {
         self as u8
+    }
+
+    /// The fault of a number.
+    pub fn numbered(number: usize) -> Option<Fault> {
+        Fault::ALL.get(number.checked_sub(1)?).copied()
     }
 
     fn words(self) -> &'static str {
@@ -97,9 +102,9 @@ pub(crate) fn judge(answer: i64, place: Option<usize>) -> Result<usize, Refusal>
     if let Ok(count) = usize::try_from(answer) {
         return Ok(count);
     }
-    let index = usize::try_from(-(answer + 1)).unwrap_or(usize::MAX);
-    let fault = *Fault::ALL
-        .get(index)
+    let fault = usize::try_from(answer.unsigned_abs())
+        .ok()
+        .and_then(Fault::numbered)
         .expect("the library returns a count or one of its refusals");
     Err(Refusal { fault, place })
 }

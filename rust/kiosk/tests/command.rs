@@ -1,8 +1,11 @@
 //! The kiosk command: what it prints and writes, and that bad input gives a clear error and no output.
 
-use std::fs;
+use std::fs::{self, File};
 use std::path::{Path, PathBuf};
 use std::process::{Command, Output};
+
+/// The listing of the sample spool.
+const LISTING: &str = include_str!("../../../samples/two-frames.txt");
 
 /// A folder of its own for each test.
 fn folder(name: &str) -> PathBuf {
@@ -24,7 +27,7 @@ fn text(bytes: &[u8]) -> String {
     String::from_utf8_lossy(bytes).into_owned()
 }
 
-/// The sample spool, whose listing document 01 shows whole: two frames, of sRGB and of 10-bit e-sRGB; with red and blue for pixels.
+/// The sample spool: two frames, of sRGB and of 10-bit e-sRGB; with red and blue for pixels.
 fn spool() -> Vec<u8> {
     let mut file = include_bytes!("../../../samples/two-frames.spool").to_vec();
     file[44..50].copy_from_slice(&[255, 0, 0, 0, 0, 255]);
@@ -45,16 +48,95 @@ fn lists_the_frames() {
     let folder = with_spool("lists");
     let listed = kiosk(&folder, &["list", "in.spool"]);
     assert!(listed.status.success());
-    assert_eq!(
-        text(&listed.stdout),
-        "frame order kind bits width height copies offset\n0 501 1 8 2 1 1 44\n1 501 2 10 1 1 3 50\n"
-    );
+    assert_eq!(text(&listed.stdout), LISTING);
+    assert!(listed.stderr.is_empty());
+    // A file with a frame that is refused still opens.
     let mut damaged = spool();
     damaged[12 + 8] = 9;
     fs::write(folder.join("damaged.spool"), damaged).expect("written");
     let listed = kiosk(&folder, &["list", "damaged.spool"]);
     assert!(listed.status.success());
-    assert!(text(&listed.stdout).contains("\n0 refused 6\n1 501 2 10 1 1 3 50\n"));
+    let mut lines: Vec<&str> = LISTING.lines().collect();
+    lines[1] = "0 refused 6";
+    assert_eq!(text(&listed.stdout), lines.join("\n") + "\n");
+    assert!(listed.stderr.is_empty());
+}
+
+/// A file that is refused: its listing on standard output, the refusal in words on standard error, and status 1.
+#[test]
+fn lists_a_refusal() {
+    let folder = folder("refusals");
+    let refused = |words: &[&str], number: u8, error: &str| {
+        let listed = kiosk(&folder, words);
+        assert_eq!(text(&listed.stdout), format!("refused {number}\n"));
+        assert_eq!(
+            text(&listed.stderr),
+            format!("kiosk: {}: {error}\n", words[1])
+        );
+        assert_eq!(listed.status.code(), Some(1));
+    };
+    let file = |name: &str, bytes: &[u8]| {
+        fs::write(folder.join(name), bytes).expect("written");
+    };
+    file("empty", &[]);
+    refused(
+        &["list", "empty"],
+        1,
+        "refusal 1: the spool is shorter than its header",
+    );
+    file("cut", &spool()[..55]);
+    refused(
+        &["list", "cut"],
+        2,
+        "refusal 2: the length in the header is not the file's",
+    );
+    let mut frames = spool();
+    frames[1] = 1;
+    file("frames", &frames);
+    refused(
+        &["list", "frames"],
+        3,
+        "refusal 3: a spool has at most 255 frames",
+    );
+    let mut table = spool();
+    table[4] = 11;
+    file("table", &table);
+    refused(
+        &["list", "table"],
+        4,
+        "refusal 4: the record table is not inside the file behind the header",
+    );
+    // The longest file that is listed, one byte more, and one without an end.
+    let mut long = spool();
+    long.resize(65_536, 0);
+    long[8..12].copy_from_slice(&65_536u32.to_le_bytes());
+    file("long", &long);
+    assert_eq!(text(&kiosk(&folder, &["list", "long"]).stdout), LISTING);
+    long.push(0);
+    long[8..12].copy_from_slice(&65_537u32.to_le_bytes());
+    file("longer", &long);
+    let too_long = "refusal 15: a listing takes at most 65,536 bytes";
+    refused(&["list", "longer"], 15, too_long);
+    refused(&["list", "/dev/zero"], 15, too_long);
+}
+
+#[test]
+fn output_that_cannot_be_written() {
+    let folder = with_spool("full");
+    for words in [
+        &["list", "in.spool"][..],
+        &["compare", "in.spool", "0"],
+        &["--help"],
+    ] {
+        let failed = Command::new(env!("CARGO_BIN_EXE_kiosk"))
+            .args(words)
+            .current_dir(&folder)
+            .stdout(File::create("/dev/full").expect("a device that is always full"))
+            .output()
+            .expect("the command runs");
+        assert_eq!(failed.status.code(), Some(1));
+        assert!(text(&failed.stderr).starts_with("kiosk: standard output: No space left"));
+    }
 }
 
 #[test]
@@ -132,8 +214,32 @@ fn compares_both_runs() {
         "10 bits: 3 channels: 2 equal, 0 one less, 1 one more, 0 further\n\
          10 bits, brought to 8: 3 channels: 2 equal, 0 one less, 1 one more, 0 further\n"
     );
+    // Red and blue of sRGB, at each depth (rules 10.4 and 10.5).
     let compared = kiosk(&folder, &["compare", "in.spool", "0"]);
-    assert_eq!(text(&compared.stdout).lines().count(), 6);
+    assert!(compared.status.success());
+    assert_eq!(
+        text(&compared.stdout),
+        "10 bits: 6 channels: 4 equal, 1 one less, 1 one more, 0 further\n\
+         10 bits, brought to 8: 6 channels: 5 equal, 0 one less, 1 one more, 0 further\n\
+         12 bits: 6 channels: 5 equal, 0 one less, 1 one more, 0 further\n\
+         12 bits, brought to 8: 6 channels: 6 equal, 0 one less, 0 one more, 0 further\n\
+         16 bits: 6 channels: 5 equal, 1 one less, 0 one more, 0 further\n\
+         16 bits, brought to 8: 6 channels: 6 equal, 0 one less, 0 one more, 0 further\n"
+    );
+    // Luma and chroma are compared by the codes that they stand for.
+    let words = [
+        "convert",
+        "in.spool",
+        "1",
+        "--to",
+        "lumachroma10",
+        "--out",
+        "ycc",
+    ];
+    assert!(kiosk(&folder, &words).status.success());
+    let compared = kiosk(&folder, &["compare", "ycc", "0"]);
+    assert!(compared.status.success());
+    assert_eq!(text(&compared.stdout).lines().count(), 2);
 }
 
 #[test]
@@ -164,7 +270,6 @@ fn fails(folder: &Path, words: &[&str], status: i32, error: &str) {
 #[test]
 fn bad_input_fails_clearly() {
     let folder = with_spool("fails");
-    fs::write(folder.join("empty"), []).expect("written");
     fs::write(folder.join("short"), [1; 11]).expect("written");
     let mut damaged = spool();
     damaged[50..52].copy_from_slice(&1024u16.to_le_bytes());
@@ -178,8 +283,7 @@ fn bad_input_fails_clearly() {
     fails(&folder, &["list", "in.spool", "--raw"], 2, "option");
     fails(&folder, &["list", "missing"], 1, "missing: No such file");
     fails(&folder, &["list", "folder"], 1, "folder: Is a directory");
-    fails(&folder, &["list", "empty"], 1, "empty: refusal 1:");
-    fails(&folder, &["list", "short"], 1, "short: refusal 1:");
+    fails(&folder, &["compare", "short", "0"], 1, "refusal 1:");
     fails(
         &folder,
         &["compare", "in.spool", "2"],

@@ -1,4 +1,4 @@
-//! A picture against its round trip through luma and chroma: document 01's wall run and counter run.
+//! A picture of codes against its round trip through luma and chroma, and both at 8 bits (rules 5.1 and 5.2).
 
 use crate::form::{self, Form};
 use kiosk::{Conversion, Refusal};
@@ -40,32 +40,77 @@ impl fmt::Display for Tally {
     }
 }
 
-/// The comparison in words: at the picture's own depth, and for sRGB at all three.
-pub fn report(from: Form, pixels: &[u8]) -> Result<String, Refusal> {
-    let depths = match from {
-        Form::Srgb => vec![10, 12, 16],
-        Form::Esrgb(depth) | Form::LumaChroma(depth) => vec![depth],
-    };
-    let mut text = String::new();
-    for depth in depths {
-        let codes = form::codes(from, depth, pixels)?;
-        let mut ycc = vec![0; codes.len()];
-        let mut back = vec![0; codes.len()];
+/// A picture of codes and its round trip, and both at 8 bits.
+struct Runs {
+    codes: Vec<u8>,
+    back: Vec<u8>,
+    direct: Vec<u8>,
+    round: Vec<u8>,
+}
+
+impl Runs {
+    /// All of it from a picture of sRGB.
+    fn of_srgb(depth: u32, picture: &[u8]) -> Result<Runs, Refusal> {
+        let wide = || vec![0; Conversion::FromSrgb { depth }.needed(picture.len())];
+        let (mut codes, mut ycc, mut back) = (wide(), wide(), wide());
+        let (mut direct, mut round) = (vec![0; picture.len()], vec![0; picture.len()]);
+        let runs = kiosk::both_runs(
+            depth,
+            picture,
+            &mut codes,
+            &mut ycc,
+            &mut back,
+            &mut direct,
+            &mut round,
+        );
+        for answer in [runs.codes, runs.ycc, runs.back, runs.direct, runs.round] {
+            answer?;
+        }
+        Ok(Runs {
+            codes,
+            back,
+            direct,
+            round,
+        })
+    }
+
+    /// The round trip of codes, then both to 8 bits.
+    fn of_codes(depth: u32, codes: Vec<u8>) -> Result<Runs, Refusal> {
+        let (mut ycc, mut back) = (vec![0; codes.len()], vec![0; codes.len()]);
         let trip = kiosk::round_trip(depth, &codes, &mut ycc, &mut back);
         trip.there?;
         trip.again?;
         let direct = form::convert(Conversion::ToSrgb { depth }, &codes)?;
         let round = form::convert(Conversion::ToSrgb { depth }, &back)?;
-        text += &format!(
-            "{depth} bits: {} channels: {}\n",
-            codes.len() / 2,
-            Tally::of(&codes, &back, 2)
-        );
-        text += &format!(
-            "{depth} bits, brought to 8: {} channels: {}\n",
-            direct.len(),
-            Tally::of(&direct, &round, 1)
-        );
+        Ok(Runs {
+            codes,
+            back,
+            direct,
+            round,
+        })
     }
-    Ok(text)
+
+    fn report(&self, depth: u32) -> String {
+        format!(
+            "{depth} bits: {} channels: {}\n{depth} bits, brought to 8: {} channels: {}\n",
+            self.codes.len() / 2,
+            Tally::of(&self.codes, &self.back, 2),
+            self.direct.len(),
+            Tally::of(&self.direct, &self.round, 1)
+        )
+    }
+}
+
+/// The comparison in words: at the picture's own depth, and for sRGB at all three.
+pub fn report(from: Form, pixels: &[u8]) -> Result<String, Refusal> {
+    match from {
+        Form::Srgb => [10, 12, 16]
+            .into_iter()
+            .map(|depth| Ok(Runs::of_srgb(depth, pixels)?.report(depth)))
+            .collect(),
+        Form::Esrgb(depth) | Form::LumaChroma(depth) => {
+            let codes = form::codes(from, depth, pixels)?;
+            Ok(Runs::of_codes(depth, codes)?.report(depth))
+        }
+    }
 }

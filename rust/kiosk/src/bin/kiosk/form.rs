@@ -1,6 +1,6 @@
 //! What a frame's pixels are, and the chain of conversions from one form to another.
 
-use kiosk::{Conversion, Record, Refusal};
+use kiosk::{Conversion, Fault, Record, Refusal};
 
 /// What the pixels of a frame are.
 #[derive(Clone, Copy, Debug, PartialEq, Eq)]
@@ -36,13 +36,17 @@ impl Target {
 }
 
 impl Form {
-    /// The form of a frame. Finding a frame has checked its kind and bits.
-    pub fn of(record: &Record) -> Form {
+    /// The form of a frame. Finding a frame has checked its kind and bits, so it is one of these.
+    pub fn of(record: &Record) -> Result<Form, Refusal> {
         let bits = u32::from(record.bits);
-        match record.kind {
-            1 => Form::Srgb,
-            2 => Form::Esrgb(bits),
-            _ => Form::LumaChroma(bits),
+        match (record.kind, bits) {
+            (1, 8) => Ok(Form::Srgb),
+            (2, 10 | 12 | 16) => Ok(Form::Esrgb(bits)),
+            (3, 10 | 12 | 16) => Ok(Form::LumaChroma(bits)),
+            _ => Err(Refusal {
+                fault: Fault::UnknownKind,
+                place: None,
+            }),
         }
     }
 
@@ -75,7 +79,7 @@ pub fn codes(from: Form, depth: u32, pixels: &[u8]) -> Result<Vec<u8>, Refusal> 
     }
 }
 
-/// A picture of one form in another, by the conversions that document 01 offers.
+/// A picture of one form in another, by the conversions that the library has (rule 4.1).
 pub fn converted(from: Form, to: Form, pixels: &[u8]) -> Result<Vec<u8>, Refusal> {
     match (from, to) {
         (Form::Srgb, Form::Srgb) => Ok(pixels.to_vec()),
@@ -84,11 +88,13 @@ pub fn converted(from: Form, to: Form, pixels: &[u8]) -> Result<Vec<u8>, Refusal
             convert(Conversion::FromLumaChroma { depth }, pixels)?;
             Ok(pixels.to_vec())
         }
-        (_, Form::Esrgb(depth)) => codes(from, depth, pixels),
+        (Form::Srgb | Form::Esrgb(_) | Form::LumaChroma(_), Form::Esrgb(depth)) => {
+            codes(from, depth, pixels)
+        }
         (Form::Esrgb(depth) | Form::LumaChroma(depth), Form::Srgb) => {
             convert(Conversion::ToSrgb { depth }, &codes(from, depth, pixels)?)
         }
-        (_, Form::LumaChroma(depth)) => convert(
+        (Form::Srgb | Form::Esrgb(_) | Form::LumaChroma(_), Form::LumaChroma(depth)) => convert(
             Conversion::ToLumaChroma { depth },
             &codes(from, depth, pixels)?,
         ),

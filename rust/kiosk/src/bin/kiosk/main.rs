@@ -8,7 +8,7 @@ mod output;
 mod png;
 
 use form::{Form, Target};
-use kiosk::{Frame, Frames};
+use kiosk::{Fault, Frame, Refusal};
 use std::ffi::{OsStr, OsString};
 use std::fs::File;
 use std::io::{self, Read, Write};
@@ -21,7 +21,9 @@ usage: kiosk list FILE
        kiosk compare FILE FRAME
        kiosk preview FILE FRAME --out FILE.png
 
-list      prints a line for each frame of a spool file
+list      prints a heading and a line for each frame of a spool file of up to
+          65,536 bytes; a file that is refused has the line `refused N`, N being
+          the refusal's number, and the refusal in words on standard error
 convert   writes a spool with the one frame, converted; with --raw only its pixels.
           FORM is srgb, esrgb10, esrgb12, esrgb16, lumachroma10, lumachroma12,
           lumachroma16, light10 or light12. Light is written raw, as signed
@@ -35,7 +37,7 @@ cannot be read or written, and 2 for a wrong command line.
 ";
 
 /// The greatest length that a spool's header can say.
-const SPOOL_LIMIT: u64 = u32::MAX as u64;
+const SPOOL_LIMIT: usize = u32::MAX as usize;
 
 /// What ends the command early.
 enum Failure {
@@ -173,19 +175,21 @@ fn number(word: &OsStr) -> Result<usize, Failure> {
     }
 }
 
-fn read(path: &Path) -> Result<Vec<u8>, Failure> {
+/// A file's bytes; of one with more than `limit` one byte more, which is enough to know that it is longer.
+fn read_within(path: &Path, limit: usize) -> Result<Vec<u8>, Failure> {
     let mut bytes = Vec::new();
-    let read = File::open(path).and_then(|file| {
-        // One byte more than any spool has is enough to know that it is none.
-        file.take(SPOOL_LIMIT + 1).read_to_end(&mut bytes)
-    });
-    match read {
-        Err(error) => Err(Failure::about(path, error)),
-        Ok(length) if length as u64 > SPOOL_LIMIT => {
-            Err(Failure::about(path, "longer than any spool"))
-        }
-        Ok(_) => Ok(bytes),
+    File::open(path)
+        .and_then(|file| file.take(limit as u64 + 1).read_to_end(&mut bytes))
+        .map_err(|error| Failure::about(path, error))?;
+    Ok(bytes)
+}
+
+fn read(path: &Path) -> Result<Vec<u8>, Failure> {
+    let bytes = read_within(path, SPOOL_LIMIT)?;
+    if bytes.len() > SPOOL_LIMIT {
+        return Err(Failure::about(path, "longer than any spool"));
     }
+    Ok(bytes)
 }
 
 /// Writes to standard output. A reader that has seen enough is no fault.
@@ -195,29 +199,24 @@ fn print(text: &str) -> Result<(), Failure> {
         .write_all(text.as_bytes())
         .and_then(|()| stdout.flush())
     {
-        Err(error) if error.kind() != io::ErrorKind::BrokenPipe => {
-            Err(Failure::about(Path::new("standard output"), error))
-        }
-        _ => Ok(()),
+        Ok(()) => Ok(()),
+        Err(error) if error.kind() == io::ErrorKind::BrokenPipe => Ok(()),
+        Err(error) => Err(Failure::about(Path::new("standard output"), error)),
     }
 }
 
 fn list(path: &Path) -> Result<(), Failure> {
-    let file = read(path)?;
-    let contents = kiosk::open(&file).map_err(|refusal| Failure::about(path, refusal))?;
-    let mut text = "frame order kind bits width height copies offset\n".to_string();
-    let mut frames = Frames::new(&file);
-    while frames.number() < contents.count {
-        let number = frames.number();
-        text += &match frames.step() {
-            Err(refusal) => format!("{number} refused {}\n", refusal.fault.number()),
-            Ok(Frame { record: r, .. }) => format!(
-                "{number} {} {} {} {} {} {} {}\n",
-                r.order, r.kind, r.bits, r.width, r.height, r.copies, r.offset
-            ),
-        };
-    }
-    print(&text)
+    let text = kiosk::listing(&read_within(path, kiosk::LISTING_LIMIT)?);
+    print(&text)?;
+    // The whole listing of a refused file is the refusal's number.
+    let Some(number) = text.strip_prefix("refused ") else {
+        return Ok(());
+    };
+    let fault = number.trim_end().parse().ok().and_then(Fault::numbered);
+    Err(match fault {
+        Some(fault) => Failure::about(path, Refusal { fault, place: None }),
+        None => Failure::about(path, text.trim_end()),
+    })
 }
 
 /// A frame of a spool file, with words for the place of an error.
@@ -237,7 +236,7 @@ fn convert(
     let file = read(path)?;
     let (frame, place) = found(path, &file, number)?;
     let refused = |refusal| Failure::about(&place, refusal);
-    let from = Form::of(&frame.record);
+    let from = Form::of(&frame.record).map_err(refused)?;
     let bytes = match target {
         Target::Light(depth) => form::light(from, depth, frame.pixels).map_err(refused)?,
         Target::Picture(form) => {
@@ -256,7 +255,8 @@ fn convert(
 fn compare_runs(path: &Path, number: usize) -> Result<(), Failure> {
     let file = read(path)?;
     let (frame, place) = found(path, &file, number)?;
-    let text = compare::report(Form::of(&frame.record), frame.pixels)
+    let text = Form::of(&frame.record)
+        .and_then(|form| compare::report(form, frame.pixels))
         .map_err(|refusal| Failure::about(&place, refusal))?;
     print(&text)
 }
@@ -264,7 +264,8 @@ fn compare_runs(path: &Path, number: usize) -> Result<(), Failure> {
 fn preview(path: &Path, number: usize, out: &Path) -> Result<(), Failure> {
     let file = read(path)?;
     let (frame, place) = found(path, &file, number)?;
-    let pixels = form::converted(Form::of(&frame.record), Form::Srgb, frame.pixels)
+    let pixels = Form::of(&frame.record)
+        .and_then(|form| form::converted(form, Form::Srgb, frame.pixels))
         .map_err(|refusal| Failure::about(&place, refusal))?;
     let picture = png::encoded(frame.record.width, frame.record.height, &pixels);
     output::write(out, &picture).map_err(|error| Failure::about(out, error))

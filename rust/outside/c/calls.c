@@ -1,6 +1,6 @@
 /*
  * Every function of kiosk.h, called from C: that the header's declarations fit the library, and that each
- * answers as document 01's examples say. Prints the number of checks.
+ * answers as the examples of docs/RULES.md say. Prints the number of checks.
  */
 #include "kiosk.h"
 
@@ -71,6 +71,63 @@ static void pictures(void)
     CHECK(code_at(back, 1) == 640 && code_at(back, 3) == 894);
 }
 
+/* A conversion that is refused leaves its destination, and those behind it convert what it held. */
+static void round_trip_refused(void)
+{
+    const unsigned red[3] = {894, 384, 384}, red_ycc[3] = {536, 426, 767};
+    uint8_t codes[6], ycc[6], back[6];
+    size_t place = 77, again_place = 78;
+    int64_t again = 0;
+
+    for (size_t k = 0; k < 3; k++) {
+        put_code(codes, k, red[k]);
+        put_code(ycc, k, red_ycc[k]);
+    }
+    put_code(codes, 1, 1024);
+    memset(back, 2, sizeof back);
+    CHECK(kiosk_round_trip(10, codes, sizeof codes, ycc, sizeof ycc, back, sizeof back, &place, &again,
+                           &again_place) == -KIOSK_SAMPLE_TOO_GREAT);
+    CHECK(place == 2 && again == 1 && again_place == 78);
+    CHECK(code_at(ycc, 0) == 536 && code_at(ycc, 1) == 426 && code_at(ycc, 2) == 767);
+    CHECK(code_at(back, 0) == 894 && code_at(back, 1) == 383 && code_at(back, 2) == 384);
+}
+
+static void both_runs(void)
+{
+    const uint8_t blue[3] = {0, 0, 255};
+    uint8_t codes[6], ycc[6], back[6], direct[3], around[3];
+    int64_t answers[5] = {70, 71, 72, 73, 74};
+    size_t places[5] = {80, 81, 82, 83, 84};
+
+    kiosk_both_runs(10, blue, sizeof blue, codes, sizeof codes, ycc, sizeof ycc, back, sizeof back, direct,
+                    sizeof direct, around, sizeof around, answers, places);
+    for (size_t k = 0; k < 5; k++)
+        CHECK(answers[k] == 1 && places[k] == 80 + k);
+    CHECK(code_at(codes, 0) == 384 && code_at(codes, 1) == 384 && code_at(codes, 2) == 894);
+    CHECK(code_at(back, 0) == 385 && code_at(back, 1) == 384 && code_at(back, 2) == 894);
+    CHECK(memcmp(direct, blue, sizeof blue) == 0);
+    CHECK(around[0] == 1 && around[1] == 0 && around[2] == 255);
+
+    /* The first is refused, for its source is no whole pixel: the codes stay, and one of them is too great
+     * for the second and the fourth. The third takes the luma and chroma of before, and the fifth what it
+     * gives. */
+    put_code(codes, 2, 1024);
+    memset(back, 2, sizeof back);
+    memset(direct, 3, sizeof direct);
+    memset(around, 4, sizeof around);
+    kiosk_both_runs(10, blue, 2, codes, sizeof codes, ycc, sizeof ycc, back, sizeof back, direct, sizeof direct,
+                    around, sizeof around, answers, places);
+    CHECK(answers[0] == -KIOSK_NOT_WHOLE_PIXELS && places[0] == 80);
+    CHECK(answers[1] == -KIOSK_SAMPLE_TOO_GREAT && places[1] == 4);
+    CHECK(answers[2] == 1 && places[2] == 82);
+    CHECK(answers[3] == -KIOSK_SAMPLE_TOO_GREAT && places[3] == 4);
+    CHECK(answers[4] == 1 && places[4] == 84);
+    CHECK(code_at(codes, 0) == 384 && code_at(codes, 1) == 384 && code_at(codes, 2) == 1024);
+    CHECK(code_at(back, 0) == 385 && code_at(back, 1) == 384 && code_at(back, 2) == 894);
+    CHECK(direct[0] == 3 && direct[1] == 3 && direct[2] == 3);
+    CHECK(around[0] == 1 && around[1] == 0 && around[2] == 255);
+}
+
 static void light(void)
 {
     uint8_t codes[12], again[12];
@@ -113,9 +170,9 @@ static void spools(void)
 
     CHECK(sizeof record == 16);
     memset(file, 0x5a, sizeof file);
-    CHECK(kiosk_lay_out(records, sizeof records, 7, file, 55, &place) == -KIOSK_WRONG_ROOM);
+    CHECK(kiosk_lay_out(records, 2, 7, file, 55, &place) == -KIOSK_WRONG_ROOM);
     CHECK(file[0] == 0x5a);
-    CHECK(kiosk_lay_out(records, sizeof records, 7, file, sizeof file, &place) == 56);
+    CHECK(kiosk_lay_out(records, 2, 7, file, sizeof file, &place) == 56);
     CHECK(file[44] == 0x5a && file[55] == 0x5a);
     CHECK(kiosk_open(file, sizeof file, &shop, &table) == 2);
     CHECK(shop == 7 && table == 12);
@@ -130,28 +187,64 @@ static void spools(void)
     CHECK(kiosk_step(file, sizeof file, &next, &record) == 6 && next == 2 && record.offset == 50);
     CHECK(kiosk_step(file, sizeof file, &next, &record) == -KIOSK_NO_SUCH_FRAME && next == 2);
 
-    /* Bytes that make no whole record are not looked at. */
-    CHECK(kiosk_lay_out(records, sizeof records - 1, 7, file, 34, &place) == 34);
+    CHECK(kiosk_lay_out(records, 1, 7, file, 34, &place) == 34);
     CHECK(kiosk_open(file, 34, &shop, &table) == 1);
-    CHECK(kiosk_lay_out(records, sizeof records, 7, file, sizeof file, &place) == 56);
+    CHECK(kiosk_lay_out(records, 0, 7, file, 12, &place) == 12);
+    CHECK(kiosk_open(file, 12, &shop, &table) == 0);
+    CHECK(kiosk_lay_out(records, 2, 7, file, sizeof file, &place) == 56);
 
     CHECK(kiosk_open(file, 11, &shop, &table) == -KIOSK_TOO_SHORT);
     CHECK(kiosk_open(file, 55, &shop, &table) == -KIOSK_WRONG_LENGTH);
     CHECK(shop == 7 && table == 12);
     records[1].bits = 8;
-    CHECK(kiosk_lay_out(records, sizeof records, 7, file, sizeof file, &place) == -KIOSK_UNKNOWN_KIND);
+    CHECK(kiosk_lay_out(records, 2, 7, file, sizeof file, &place) == -KIOSK_UNKNOWN_KIND);
     CHECK(place == 1);
     records[1].bits = 10;
     records[0].width = 8193;
-    CHECK(kiosk_lay_out(records, sizeof records, 7, file, sizeof file, &place) == -KIOSK_WRONG_SIZE);
+    CHECK(kiosk_lay_out(records, 2, 7, file, sizeof file, &place) == -KIOSK_WRONG_SIZE);
     CHECK(place == 0);
+}
+
+/* Are the text of a listing, its length and the bytes behind it, which were all 0x5a, as they must be? */
+static int lists(const uint8_t *file, size_t file_len, const char *expected)
+{
+    static uint8_t text[KIOSK_LISTING_ROOM];
+    size_t length = strlen(expected);
+
+    memset(text, 0x5a, sizeof text);
+    if (kiosk_listing(file, file_len, text) != length || memcmp(text, expected, length) != 0)
+        return 0;
+    for (size_t k = length; k < sizeof text; k++)
+        if (text[k] != 0x5a)
+            return 0;
+    return 1;
+}
+
+static void listings(void)
+{
+    static uint8_t longer[65537];
+    const uint8_t empty[12] = {0, 0, 7, 0, 12, 0, 0, 0, 12, 0, 0, 0};
+    const char *heading = "frame order kind bits width height copies offset\n";
+
+    CHECK(KIOSK_LISTING_ROOM == 16384);
+    CHECK(lists(empty, sizeof empty, heading));
+    CHECK(lists(empty, 11, "refused 1\n"));
+    CHECK(lists(longer, sizeof longer, "refused 15\n"));
+    CHECK(lists(longer, sizeof longer - 1, "refused 2\n"));
+    memcpy(longer, empty, sizeof empty);
+    longer[8] = 0;
+    longer[10] = 1;
+    CHECK(lists(longer, sizeof longer - 1, heading));
 }
 
 int main(void)
 {
     pictures();
+    round_trip_refused();
+    both_runs();
     light();
     spools();
+    listings();
     printf("%d checks from C, %d failed\n", checks, failures);
     return failures != 0;
 }

@@ -52,26 +52,36 @@ pub fn sound_record(random: &mut Random) -> Record {
 
 const GUARD: usize = 24;
 
-/// A destination with guard bytes around it, lent to `fill`. Gives what `fill` gives and the destination after
+/// Destinations with guards around each, lent to `fill`. Gives what `fill` gives and the destinations after
 /// it; a guard that is changed stops the test.
-pub fn guarded<T: Copy + PartialEq + std::fmt::Debug, R>(
+pub fn all_guarded<T: Copy + PartialEq, R, const N: usize>(
+    before: [&[T]; N],
+    guard: T,
+    fill: impl FnOnce([&mut [T]; N]) -> R,
+) -> (R, [Vec<T>; N]) {
+    let guards = [guard; GUARD];
+    let mut rooms = before.map(|bytes| [&guards, bytes, &guards].concat());
+    let given = fill(rooms.each_mut().map(|room| {
+        let end = room.len() - GUARD;
+        &mut room[GUARD..end]
+    }));
+    let after = rooms.map(|room| {
+        let end = room.len() - GUARD;
+        assert!(room[..GUARD] == guards, "bytes before a destination");
+        assert!(room[end..] == guards, "bytes behind a destination");
+        room[GUARD..end].to_vec()
+    });
+    (given, after)
+}
+
+/// One destination, as in [`all_guarded`].
+pub fn guarded<T: Copy + PartialEq, R>(
     before: &[T],
     guard: T,
     fill: impl FnOnce(&mut [T]) -> R,
 ) -> (R, Vec<T>) {
-    let mut room = vec![guard; GUARD + before.len() + GUARD];
-    let middle = GUARD..GUARD + before.len();
-    room[middle.clone()].copy_from_slice(before);
-    let given = fill(&mut room[middle.clone()]);
-    assert!(
-        room[..middle.start].iter().all(|&x| x == guard),
-        "bytes before the destination"
-    );
-    assert!(
-        room[middle.end..].iter().all(|&x| x == guard),
-        "bytes behind the destination"
-    );
-    (given, room[middle].to_vec())
+    let (given, [after]) = all_guarded([before], guard, |[dst]| fill(dst));
+    (given, after)
 }
 
 /// The library's conversion of the reference's.

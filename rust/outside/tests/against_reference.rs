@@ -11,7 +11,7 @@ use std::time::Instant;
 /// A part of the tests: what it compares, and the function that gives how many.
 type Part = (&'static str, fn() -> u64);
 
-const PARTS: [Part; 9] = [
+const PARTS: [Part; 10] = [
     (
         "samples: every code of every depth",
         parts::pictures::every_sample,
@@ -28,6 +28,10 @@ const PARTS: [Part; 9] = [
         "calls of Convert with faults and wrong lengths",
         parts::pictures::refusals,
     ),
+    (
+        "chains of conversions, each accepted or refused by itself",
+        parts::pictures::runs_with_refusals,
+    ),
     ("codes to light: every code", parts::light::every_code),
     (
         "light to codes: every light from -2,100,000 to 2,100,000",
@@ -38,7 +42,7 @@ const PARTS: [Part; 9] = [
         parts::light::refusals,
     ),
     (
-        "spools laid out, found, walked, damaged and cut",
+        "spools laid out, found, walked, listed, damaged and cut",
         parts::spools::spools,
     ),
     (

@@ -1,5 +1,6 @@
 //! The C programs under c/, compiled against include/kiosk.h with warnings as errors, as C and as C++, and run.
 
+use std::collections::BTreeSet;
 use std::path::{Path, PathBuf};
 use std::process::Command;
 
@@ -59,6 +60,40 @@ fn every_function() {
         print!("{said}");
         assert!(said.ends_with(" checks from C, 0 failed\n"));
     }
+}
+
+/// The names in a C text that begin with `kiosk_` and stand before a bracket: functions, declared or called.
+fn functions(text: &str) -> BTreeSet<&str> {
+    text.match_indices("kiosk_")
+        .filter_map(|(start, _)| {
+            let rest = &text[start..];
+            let end = rest.find(|c: char| !(c.is_ascii_alphanumeric() || c == '_'))?;
+            rest[end..].starts_with('(').then_some(&rest[..end])
+        })
+        .collect()
+}
+
+/// The header has the functions of the archive, and calls.c calls them all.
+#[test]
+fn no_function_is_left_out() {
+    let root = Path::new(env!("CARGO_MANIFEST_DIR")).join("../..");
+    let listed = Command::new("nm")
+        .args(["--defined-only", "-g", "-P"])
+        .arg(root.join("target/staticlib/libkiosk.a"))
+        .output()
+        .expect("nm, which comes with the compiler");
+    let names = String::from_utf8(listed.stdout).expect("plain names");
+    // A name is the first word of its line.
+    let exported: BTreeSet<&str> = names
+        .lines()
+        .filter_map(|line| line.split(' ').next())
+        .filter(|name| name.starts_with("kiosk_"))
+        .collect();
+    let declared = functions(include_str!("../../../include/kiosk.h"));
+    let called = functions(include_str!("../c/calls.c"));
+    assert!(declared.contains("kiosk_open"));
+    assert_eq!(declared, exported);
+    assert_eq!(declared, called);
 }
 
 #[test]

@@ -1,5 +1,5 @@
-//! The program `list`, which `rt check list` makes: on sample files against stored output, and on these and on
-//! damaged spools against the second implementation.
+//! The listing, by the program `list`, which `rt check list` makes, and by the library's function: on sample files
+//! against stored output, and on these, on damaged spools and at the limits against the second implementation.
 
 #![forbid(unsafe_code)]
 
@@ -9,12 +9,8 @@ use std::fs::{self, File};
 use std::path::Path;
 use std::process::Command;
 
-/// Sample files, under the line that stands over each listing in listings.txt.
-const SAMPLES: [(&str, &[u8]); 8] = [
-    (
-        "document 01's listing",
-        include_bytes!("../../../samples/two-frames.spool"),
-    ),
+/// Files, under the line that stands over each listing in listings.txt.
+const SAMPLES: [(&str, &[u8]); 7] = [
     (
         "a good frame, then one refused by 6, a good one, one each by 7 and 8, a good one",
         b"\x06\x00\x07\x00\x0c\x00\x00\x00\x6f\x00\x00\x00\
@@ -63,7 +59,7 @@ fn fullest() -> Vec<u8> {
     file
 }
 
-/// What `list` prints for a file, which is lent a name of its own.
+/// What `list` prints for a file, which is put under a name; the library and the reference say the same.
 fn list(file: &[u8], name: &str) -> String {
     let input = Path::new(env!("CARGO_TARGET_TMPDIR")).join(name);
     fs::write(&input, file).expect("room for a file");
@@ -73,7 +69,28 @@ fn list(file: &[u8], name: &str) -> String {
         .output()
         .expect("target/bin/list");
     assert!(ran.status.success());
-    String::from_utf8(ran.stdout).expect("plain text")
+    let printed = String::from_utf8(ran.stdout).expect("plain text");
+    let expected = listing(file);
+    assert_eq!(printed, expected, "list, of {file:?}");
+    assert_eq!(kiosk::listing(file), expected, "the library, of {file:?}");
+    printed
+}
+
+/// Every spool under samples/, each with its listing beside it.
+#[test]
+fn sample_files() {
+    let folder = Path::new(env!("CARGO_MANIFEST_DIR")).join("../../samples");
+    let mut spools = 0;
+    for entry in fs::read_dir(folder).expect("the samples") {
+        let path = entry.expect("a sample").path();
+        if path.extension().is_some_and(|end| end == "spool") {
+            let file = fs::read(&path).expect("a spool");
+            let expected = fs::read_to_string(path.with_extension("txt")).expect("its listing");
+            assert_eq!(list(&file, "file"), expected, "{}", path.display());
+            spools += 1;
+        }
+    }
+    assert!(spools > 0);
 }
 
 #[test]
@@ -85,9 +102,7 @@ fn samples_as_stored() {
     files.push(("255 frames", &fullest));
     let mut text = String::new();
     for (what, file) in files {
-        let printed = list(file, "sample");
-        assert_eq!(printed, listing(file), "{what}");
-        text += &format!("{what}\n{printed}");
+        text += &format!("{what}\n{}", list(file, "sample"));
     }
     assert_eq!(text, include_str!("listings.txt"));
 }
@@ -106,6 +121,35 @@ fn damaged_spools() {
             let at = random.below(12 + 16 * frames as u64) as usize;
             file[at] = random.number() as u8;
         }
-        assert_eq!(list(&file, "damaged"), listing(&file), "{file:?}");
+        list(&file, "damaged");
+    }
+}
+
+/// Spools of 255 frames and of the lengths around the greatest that is listed; with the file's length in the
+/// header, and with another.
+#[test]
+fn limits() {
+    let frame = Record {
+        width: 8192,
+        height: 1,
+        kind: 2,
+        bits: 16,
+        copies: u16::MAX,
+        order: u32::MAX,
+        offset: 10_000,
+    };
+    for length in [65_534, 65_535, 65_536, 65_537, 65_538, 70_000, 1 << 20] {
+        let mut file = vec![0; 12];
+        file[0] = 255;
+        file[4] = 12;
+        file[8..12].copy_from_slice(&(length as u32).to_le_bytes());
+        file.extend(frame.write().repeat(255));
+        file.resize(length, 0);
+        let printed = list(&file, "long");
+        let lines = if length <= 65_536 { 1 + 255 } else { 1 };
+        assert_eq!(printed.lines().count(), lines, "{length} bytes");
+        file[8] ^= 1;
+        let refusal = if length <= 65_536 { 2 } else { 15 };
+        assert_eq!(list(&file, "long"), format!("refused {refusal}\n"));
     }
 }

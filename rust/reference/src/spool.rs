@@ -42,7 +42,8 @@ impl Record {
         }
     }
 
-    fn write(&self) -> Vec<u8> {
+    /// The record's bytes in a file.
+    pub fn write(&self) -> Vec<u8> {
         [
             &self.offset.to_le_bytes()[..],
             &self.width.to_le_bytes(),

@@ -1,8 +1,9 @@
 //! Convert.
 
-use outside::{guarded, of_library, said, Random};
+use outside::{all_guarded, guarded, of_library, said, Random};
 use reference::buffers::{convert, Conversion, Form};
 use reference::samples;
+use std::collections::BTreeSet;
 
 const DEPTHS: [u32; 3] = [10, 12, 16];
 
@@ -62,8 +63,8 @@ pub fn every_sample() -> u64 {
     count
 }
 
-/// All sRGB pixels through the chain of demand 3 at each depth: every call against the reference, and demand 3
-/// itself on what comes back.
+/// All sRGB pixels through the five conversions of rule 5.2 at each depth: each conversion against the reference,
+/// rule 5.2 itself on what comes back, and the same by `both_runs` in one call.
 pub fn every_srgb_pixel() -> u64 {
     let mut count = 0;
     for depth in DEPTHS {
@@ -82,6 +83,11 @@ pub fn every_srgb_pixel() -> u64 {
             compare(Conversion::FromLumaChroma(depth), &ycc, &back);
             compare(Conversion::ToSrgb(depth), &back, &round);
             assert_eq!(direct, picture, "straight back at {depth} bits");
+            let before =
+                [&codes, &codes, &codes, &direct, &direct].map(|like| vec![0x5a; like.len()]);
+            let (answers, after) = both_runs(depth, &picture, before.each_ref().map(Vec::as_slice));
+            assert_eq!(answers, [Ok(1 << 16); 5]);
+            assert!(after == [&codes, &ycc, &back, &direct, &round].map(Vec::clone));
             let (codes, back) = (read(&codes, 2), read(&back, 2));
             for (k, (&a, &x)) in picture.iter().zip(&round).enumerate() {
                 assert!((codes[k] - back[k]).abs() <= 1, "within one code");
@@ -177,29 +183,31 @@ pub fn pixels_with_edges() -> u64 {
     count
 }
 
+/// Depths to ask for, offered and others.
+const ANY_DEPTH: [u32; 15] = [
+    10,
+    12,
+    16,
+    10,
+    12,
+    16,
+    0,
+    8,
+    9,
+    11,
+    13,
+    15,
+    17,
+    32,
+    u32::MAX,
+];
+
 /// Short buffers of any length and depth, with faults: answers, places and every byte against the reference.
 pub fn refusals() -> u64 {
     let mut random = Random::new(2);
     let mut count = 0;
-    let depths = [
-        10,
-        12,
-        16,
-        10,
-        12,
-        16,
-        0,
-        8,
-        9,
-        11,
-        13,
-        15,
-        17,
-        32,
-        u32::MAX,
-    ];
     for _ in 0..400_000 {
-        let (n, m) = (random.pick(&depths), random.pick(&depths));
+        let (n, m) = (random.pick(&ANY_DEPTH), random.pick(&ANY_DEPTH));
         let conversion = random.pick(&[
             Conversion::FromSrgb(n),
             Conversion::ToSrgb(n),
@@ -252,4 +260,103 @@ pub fn refusals() -> u64 {
         count += 1;
     }
     count
+}
+
+/// What each of several conversions gives, in order.
+type Answers<const N: usize> = [Result<usize, reference::Refusal>; N];
+
+/// Both runs by the library: its answers, and the five destinations after it.
+fn both_runs(depth: u32, picture: &[u8], before: [&[u8]; 5]) -> (Answers<5>, [Vec<u8>; 5]) {
+    let (runs, after) = all_guarded(before, 0xa5, |[codes, ycc, back, direct, round]| {
+        kiosk::both_runs(depth, picture, codes, ycc, back, direct, round)
+    });
+    let answers = [runs.codes, runs.ycc, runs.back, runs.direct, runs.round];
+    (answers.map(said), after)
+}
+
+/// The same by the reference, call by call.
+fn both_runs_by_calls(
+    depth: u32,
+    picture: &[u8],
+    before: [&[u8]; 5],
+) -> (Answers<5>, [Vec<u8>; 5]) {
+    let [mut codes, mut ycc, mut back, mut direct, mut round] = before.map(<[u8]>::to_vec);
+    let answers = [
+        convert(Conversion::FromSrgb(depth), picture, &mut codes),
+        convert(Conversion::ToLumaChroma(depth), &codes, &mut ycc),
+        convert(Conversion::FromLumaChroma(depth), &ycc, &mut back),
+        convert(Conversion::ToSrgb(depth), &codes, &mut direct),
+        convert(Conversion::ToSrgb(depth), &back, &mut round),
+    ];
+    (answers, [codes, ycc, back, direct, round])
+}
+
+/// A round trip by the library and by the reference, call by call: answers and every byte.
+fn compare_trip(depth: u32, codes: &[u8], before: [&[u8]; 2]) -> Answers<2> {
+    let (trip, after) = all_guarded(before, 0xa5, |[ycc, back]| {
+        kiosk::round_trip(depth, codes, ycc, back)
+    });
+    let [mut ycc, mut back] = before.map(<[u8]>::to_vec);
+    let expected = [
+        convert(Conversion::ToLumaChroma(depth), codes, &mut ycc),
+        convert(Conversion::FromLumaChroma(depth), &ycc, &mut back),
+    ];
+    assert_eq!(
+        ([said(trip.there), said(trip.again)], after),
+        (expected, [ycc, back]),
+        "round trip of {codes:?} at {depth} bits over {before:?}"
+    );
+    expected
+}
+
+/// Short buffers with something in them, of lengths that fit or not, through both runs and round trips: each
+/// conversion is accepted or refused by itself, so all answers and bytes are those of the reference's calls one
+/// after another. Every pattern of accepted and refused conversions occurs.
+pub fn runs_with_refusals() -> u64 {
+    const ROUNDS: u64 = 300_000;
+    let mut random = Random::new(7);
+    let (mut patterns, mut trips) = (BTreeSet::new(), BTreeSet::new());
+    // Mostly `pixels` whole pixels, else another number of them, or any length.
+    let length = |random: &mut Random, pixels: u64, bytes: u64| match random.below(16) {
+        0 => random.below(4 * bytes),
+        1..4 => random.below(4) * bytes,
+        _ => pixels * bytes,
+    };
+    for _ in 0..ROUNDS {
+        let depth = match random.below(8) {
+            0 => random.pick(&ANY_DEPTH),
+            _ => random.pick(&DEPTHS),
+        };
+        let pixels = random.below(4);
+        // Codes of any depth, of which one may be too great, or 0, which chroma may not be.
+        let mut wide_buffer = || {
+            let bytes = length(&mut random, pixels, 6) as usize;
+            let mut codes = wide((0..12).map(|_| 1 + random.below(1023) as i64));
+            if random.below(3) == 0 {
+                let k = 2 * random.below(12) as usize;
+                let fault: u16 = random.pick(&[0, 0, 1024, 4096, 65_535]);
+                codes[k..k + 2].copy_from_slice(&fault.to_le_bytes());
+            }
+            codes.truncate(bytes);
+            codes
+        };
+        let wide = [wide_buffer(), wide_buffer(), wide_buffer()];
+        let mut narrow_buffer = || {
+            let bytes = length(&mut random, pixels, 3) as usize;
+            random.bytes(bytes)
+        };
+        let (picture, narrow) = (narrow_buffer(), [narrow_buffer(), narrow_buffer()]);
+        let before = [&wide[0][..], &wide[1], &wide[2], &narrow[0], &narrow[1]];
+        let (answers, after) = both_runs(depth, &picture, before);
+        assert_eq!(
+            (answers, after),
+            both_runs_by_calls(depth, &picture, before),
+            "both runs of {picture:?} at {depth} bits over {before:?}"
+        );
+        patterns.insert(answers.map(|answer| answer.is_ok()));
+        let answers = compare_trip(depth, before[0], [before[1], before[2]]);
+        trips.insert(answers.map(|answer| answer.is_ok()));
+    }
+    assert_eq!((patterns.len(), trips.len()), (1 << 5, 1 << 2));
+    2 * ROUNDS
 }

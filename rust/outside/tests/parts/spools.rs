@@ -27,7 +27,7 @@ fn of_reference(record: &kiosk::Record) -> Record {
     }
 }
 
-/// A frame's record, and that its pixels are the stretch of the file that the record names.
+/// A frame's record, and that its pixels are the part of the file that the record names.
 fn found(
     file: &[u8],
     answer: Result<kiosk::Frame, kiosk::Refusal>,
@@ -40,8 +40,8 @@ fn found(
     Ok(record)
 }
 
-/// Opens a file, finds frames of it and walks it, by the library and by the reference. Gives how many answers
-/// were compared.
+/// Opens a file, finds frames of it, walks it and lists it, by the library and by the reference. Gives how many
+/// answers were compared.
 fn compare(file: &[u8]) -> u64 {
     let opened = said(kiosk::open(file).map(|c| Contents {
         count: c.count as u16,
@@ -80,7 +80,8 @@ fn compare(file: &[u8]) -> u64 {
         compared += 1;
     }
     assert_eq!(next, count, "a walk ends behind the last frame");
-    compared
+    assert_eq!(kiosk::listing(file), spool::listing(file), "list {file:?}");
+    compared + 1
 }
 
 /// A spool by the library's layout, which is also the reference's.

@@ -1,5 +1,5 @@
-//! Unsigned whole numbers of up to 512 bits, which is more than any comparison of powers in document
-//! 01 needs. A product that does not fit is a fault of the caller and stops the program.
+//! Unsigned whole numbers of up to 512 bits, which is more than any comparison of powers by rule 6.5
+//! needs. A product that does not fit is a fault of the caller and stops the program.
 
 use std::cmp::Ordering;
 

@@ -1,4 +1,4 @@
-//! Convert and light over buffers: the refusals in document 01's order, then every sample.
+//! Convert and light over buffers: the refusals in the order of rules 4.2 and 6.7, then every sample.
 
 use crate::{light, samples, Refusal};
 
@@ -7,7 +7,6 @@ use crate::{light, samples, Refusal};
 pub enum Form {
     Srgb,
     Esrgb(u32),
-    /// Document 01's sheet.
     LumaChroma(u32),
 }
 
@@ -64,7 +63,7 @@ impl Form {
     }
 }
 
-/// The conversions of document 01.
+/// The conversions of rule 4.1.
 #[derive(Clone, Copy, Debug, PartialEq, Eq)]
 pub enum Conversion {
     FromSrgb(u32),

@@ -1,6 +1,6 @@
-//! A second implementation of the kiosk operations, written from document 01 and PIMA 7667:2001 and
-//! sharing nothing with the proved library. It is exact and simple, and not quick: whole numbers
-//! only, one rule of document 01 at a time.
+//! A second implementation of the kiosk operations, written from docs/RULES.md and PIMA 7667:2001 and
+//! sharing nothing with the proved library. It is exact and simple, and not quick: whole numbers only, one
+//! rule at a time. Rules are cited by their numbers in docs/RULES.md.
 
 #![forbid(unsafe_code)]
 
@@ -10,7 +10,7 @@ pub mod light;
 pub mod samples;
 pub mod spool;
 
-/// Why an operation refuses: document 01's number, and the place where document 01 gives one.
+/// Why an operation refuses: the number (rule 8), and the place where it has one.
 #[derive(Clone, Copy, Debug, PartialEq, Eq)]
 pub struct Refusal {
     pub number: u8,

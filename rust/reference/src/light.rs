@@ -1,5 +1,5 @@
-//! Linear light, in signed millionths of reference white. The power 2.4 is 12 ÷ 5, so a candidate is
-//! judged by comparing fifth and twelfth powers of whole numbers.
+//! Linear light (rule 6), in signed millionths of reference white. No power of 2.4 is computed: whether a
+//! number is reached is told in whole numbers, with 12th powers on one side and 5th powers on the other.
 
 use crate::big::Big;
 use crate::samples::{greatest, nearest, offset, scale};
@@ -105,9 +105,9 @@ pub fn codes_around_zero(depth: u32, top: u32) -> (Vec<i64>, Vec<i64>) {
 mod tests {
     use super::*;
 
-    /// The swatch book of document 01.
+    /// Rule 10.2.
     #[test]
-    fn swatches() {
+    fn examples() {
         assert_eq!(
             [1, -1, 82, 2040].map(|v| from_code(12, v + 1536)),
             [38, -38, 3111, 1_000_000]
@@ -117,7 +117,7 @@ mod tests {
         assert_eq!(to_code(12, 3131), 1619);
     }
 
-    /// The 10- and 12-bit columns of the standard's neutral patch table (PIMA 7667, 4.4.3).
+    /// Rule 10.7: what the standard's table (PIMA 7667, 4.4.3) has for neutral patches at 10 and 12 bits.
     #[test]
     fn neutral_patches() {
         let patches = [

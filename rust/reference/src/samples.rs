@@ -1,4 +1,4 @@
-//! E-sRGB codes and luma and chroma (document 01's sheet), one sample or pixel at a time.
+//! E-sRGB codes (rule 1) and luma and chroma (rule 2), one sample or pixel at a time.
 
 /// Is e-sRGB offered at this depth?
 pub fn offered(depth: u32) -> bool {
@@ -76,7 +76,7 @@ pub fn from_luma_chroma(depth: u32, [y, blue, red]: [i64; 3]) -> [i64; 3] {
     let (cb, cr) = (blue - middle, red - middle);
     [
         nearest(1000 * y + 1402 * cr, 1000),
-        nearest(587_000 * y - (202_008 * cb + 419_198 * cr), 587_000),
+        nearest(587_000 * y - 419_198 * cr - 202_008 * cb, 587_000),
         nearest(1000 * y + 1772 * cb, 1000),
     ]
     .map(|code| code.clamp(0, greatest(depth)))
@@ -86,9 +86,9 @@ pub fn from_luma_chroma(depth: u32, [y, blue, red]: [i64; 3]) -> [i64; 3] {
 mod tests {
     use super::*;
 
-    /// The swatch book of document 01.
+    /// Rules 10.1 and 10.3 to 10.6.
     #[test]
-    fn swatches() {
+    fn examples() {
         assert_eq!([0, 128, 255].map(|a| from_srgb(10, a)), [384, 640, 894]);
         assert_eq!(from_srgb(16, 255), 57_216);
         assert_eq!(

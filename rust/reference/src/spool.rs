@@ -1,4 +1,4 @@
-//! The spool file: open, find, walk, lay out, and the listing.
+//! The spool file: open, find, walk, lay out (rule 7), and the listing (rule 9).
 
 use crate::Refusal;
 
@@ -193,9 +193,9 @@ pub fn listing(file: &[u8]) -> String {
 mod tests {
     use super::*;
 
-    /// The listing that document 01 shows whole.
+    /// The sample file's frames, laid out, and its listing.
     #[test]
-    fn listing_of_document_01() {
+    fn listing_of_two_frames() {
         let srgb = Record {
             width: 2,
             height: 1,
@@ -217,7 +217,7 @@ mod tests {
         assert_eq!(open(&file).map(|c| c.shop), Ok(7));
         assert_eq!(
             listing(&file),
-            "frame order kind bits width height copies offset\n0 501 1 8 2 1 1 44\n1 501 2 10 1 1 3 50\n"
+            include_str!("../../../samples/two-frames.txt")
         );
     }
 }

@@ -1,5 +1,5 @@
-//! Prints what this implementation gives for document 01's unstarred swatches and for the neutral patches of
-//! PIMA 7667's table (4.4.3). The program `vectors` over the proved library must print the same.
+//! Prints what this implementation gives for the examples of rule 10.6 and for the neutral patches of rule
+//! 10.7, from PIMA 7667's table (4.4.3). The program `vectors` over the proved library must print the same.
 
 use reference::{light, samples, spool};
 

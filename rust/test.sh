@@ -26,6 +26,15 @@ wait "$archive" || {
 quietly cargo build --offline --workspace --all-targets
 quietly cargo test --offline --package kiosk --package bench
 quietly cargo run --offline --package kiosk --example red
+# The script at the root. The first run may have something to build; the second has not, and says nothing of its own.
+script() {
+    local status=0
+    ../kiosk list ../samples/two-frames.spool || return 1
+    diff <(../kiosk list ../samples/two-frames.spool 2>&1) ../samples/two-frames.txt || return 1
+    ../kiosk list /dev/null || status=$?
+    [ "$status" -eq 1 ]
+}
+quietly script
 quietly rt check list
 quietly cargo test --offline --package outside --test c_interface --test listing
 cargo test --offline --quiet --package outside --test against_reference

@@ -1,9 +1,10 @@
-//! Links libkiosk.a. Where it is missing or older than the Rattle sources, `rt staticlib kiosk` makes it.
+//! Links libkiosk.a. Where it is missing or older than the Rattle sources, `rt staticlib kiosk` proves the library and
+//! makes it, as the script `kiosk` at the root does, which also shows how far it is.
 
 use std::path::{Path, PathBuf};
 use std::process::Command;
 use std::time::SystemTime;
-use std::{env, fs};
+use std::{env, fs, io};
 
 fn main() {
     if let Err(message) = link() {
@@ -27,6 +28,9 @@ fn link() -> Result<(), String> {
 
     let newest = sources.iter().filter_map(|s| newest_in(s)).max();
     if changed(&archive).is_none_or(|made| newest.is_some_and(|newest| made < newest)) {
+        // Cargo shows this when the proof is done.
+        println!("cargo:warning=the library was proved first, by `rt staticlib kiosk`");
+        let start = SystemTime::now();
         let made = Command::new("rt")
             .args(["staticlib", "kiosk"])
             .current_dir(root)
@@ -39,6 +43,8 @@ fn link() -> Result<(), String> {
                 String::from_utf8_lossy(&made.stderr)
             ));
         }
+        // What is changed during the proof is newer than the archive.
+        set_changed(&archive, start).map_err(|e| format!("{}: {e}", archive.display()))?;
     }
     let folder = archive.parent().ok_or("the archive has no folder")?;
     println!("cargo:rustc-link-search=native={}", folder.display());
@@ -48,6 +54,13 @@ fn link() -> Result<(), String> {
 
 fn changed(path: &Path) -> Option<SystemTime> {
     fs::metadata(path).ok()?.modified().ok()
+}
+
+fn set_changed(path: &Path, time: SystemTime) -> io::Result<()> {
+    fs::File::options()
+        .append(true)
+        .open(path)?
+        .set_modified(time)
 }
 
 /// When a file, or the newest file of a folder, was last changed.

@@ -6,26 +6,27 @@
  *
  * Answers. A function that returns int64_t gives a count of 0 or more, or minus the number of a
  * refusal (enum kiosk_refusal). A refused call changes no destination. kiosk_round_trip and
- * kiosk_both_runs make several conversions, and of these it holds one by one: each is accepted or
- * refused by itself, and one that is accepted writes, also after one that was refused.
+ * kiosk_both_runs make several conversions, each accepted or refused by itself: a refused one
+ * leaves its own destination as it was, and a later one may still be accepted, and then writes.
  *
  * Buffers are a pointer and a length: bytes for uint8_t, numbers for int32_t, records for struct
- * kiosk_record. A destination may have any length; unless it is the one needed, it is refused with 11.
- * A buffer of length 0 is neither read nor written, but its pointer is not null.
+ * kiosk_record. Any length may be given: a destination that is longer or shorter than needed is
+ * refused with 11. A buffer of length 0 is neither read nor written.
  *
  * `place` and `places` are written by the refusals that have a place, and otherwise keep what they
  * held.
  *
  * What no function can check, and each relies on:
- * - No pointer is null. Behind it is all that its length or its type says, aligned as C asks.
- * - What is written overlaps nothing else that the call is given. This goes for destinations and for
- *   place, again, again_place, answers, places, shop, table, next, record and text.
+ * - No pointer is null, not even that of an empty buffer. Each points to as much as its length or
+ *   its type says, aligned as C asks.
+ * - What a call writes overlaps nothing else that it is given. It writes destinations, and what
+ *   place, again, again_place, answers, places, shop, table, next, record and text point to.
  * - A buffer is shorter than 2^63 bytes.
  * - During a call nobody else writes what the call is given, or reads what it writes.
  *
  * Pixels are three samples, row by row (rules 3.1, 3.2). Samples of 8 bits are single bytes; all
- * others take two, the low one first. Depths offered are 10, 12 and 16, for linear light 10 and 12; any
- * other may be asked for and is refused with 9.
+ * others take two, the low one first. Depths offered are 10, 12 and 16, for linear light 10 and 12;
+ * any other may be asked for and is refused with 9.
  */
 #ifndef KIOSK_H
 #define KIOSK_H
@@ -74,7 +75,7 @@ struct kiosk_record {
     uint32_t order;
 };
 
-/* ---- Pictures (rule 4). A conversion gives the pixel count, or refuses with 9, 10, 11, 12 or 13. ---- */
+/* ---- Pictures (rule 4). Conversions give the pixel count, or refuse with 9, 10, 11, 12 or 13. ---- */
 
 /* Converts 8-bit sRGB to e-sRGB of the given depth. */
 int64_t kiosk_from_srgb(uint32_t depth, const uint8_t *src, size_t src_len,
@@ -97,22 +98,23 @@ int64_t kiosk_from_luma_chroma(uint32_t depth, const uint8_t *src, size_t src_le
                                uint8_t *dst, size_t dst_len, size_t *place);
 
 /* Two conversions (rule 5.1): e-sRGB to luma and chroma in `ycc`, and `ycc` back to e-sRGB in `back`.
- * Returns the first one's answer; *again gets the second's, and each has a place of its own. The second
- * is made also if the first is refused: it then converts what `ycc` held. */
+ * Returns the first one's answer; *again gets the second's, and each has a place of its own. Where
+ * the first is refused, the second converts what `ycc` held before. */
 int64_t kiosk_round_trip(uint32_t depth, const uint8_t *codes, size_t codes_len,
                          uint8_t *ycc, size_t ycc_len, uint8_t *back, size_t back_len,
                          size_t *place, int64_t *again, size_t *again_place);
 
-/* Five conversions (rule 5.2), in this order: the sRGB `picture` to e-sRGB in `codes`; `codes` to luma
- * and chroma in `ycc`; `ycc` back to e-sRGB in `back`; `codes` to 8-bit sRGB in `direct`; `back` to 8-bit
- * sRGB in `round`. answers[k] gets the answer of number k, from 0, and places[k] its place. All five are
- * made: behind a refused one the others convert what its destination held. */
+/* Five conversions (rule 5.2), in this order: the sRGB `picture` to e-sRGB in `codes`; `codes` to
+ * luma and chroma in `ycc`; `ycc` back to e-sRGB in `back`; `codes` to 8-bit sRGB in `direct`; and
+ * `back` to 8-bit sRGB in `round`. answers[k] gets the answer of the k-th, from 0, and places[k] its
+ * place. All five are made: where one is refused, a later one that reads its destination converts
+ * what was there before. */
 void kiosk_both_runs(uint32_t depth, const uint8_t *picture, size_t picture_len,
                      uint8_t *codes, size_t codes_len, uint8_t *ycc, size_t ycc_len,
                      uint8_t *back, size_t back_len, uint8_t *direct, size_t direct_len,
                      uint8_t *round, size_t round_len, int64_t answers[5], size_t places[5]);
 
-/* ---- Linear light (rule 6), in signed millionths of reference white. Each gives the pixel count. ---- */
+/* ---- Linear light (rule 6), in signed millionths of reference white. Both give the pixel count. ---- */
 
 /* Converts e-sRGB codes to light: dst_len counts numbers. Refuses with 9, 10, 11 or 12. */
 int64_t kiosk_code_to_light(uint32_t depth, const uint8_t *src, size_t src_len,
@@ -137,18 +139,18 @@ int64_t kiosk_find(const uint8_t *file, size_t file_len, size_t number, struct k
 int64_t kiosk_step(const uint8_t *file, size_t file_len, size_t *next, struct kiosk_record *record);
 
 /* Lays out a spool in dst: writes the header and the record table, with the pixels of the frames one
- * after another behind it, and leaves the pixel bytes as found. The records' own offsets are ignored;
- * records_len counts records. Gives the total length. Refuses with 3, with 6 or 7, whose place is the
- * number of the record, with 14 or 11. */
+ * after another behind it, and leaves the pixel bytes as found. The records' own offsets are ignored,
+ * and records_len is the number of records. Gives the total length. Refuses with 3, with 6 or 7,
+ * whose place is the number of the record from 0, with 14 or 11. */
 int64_t kiosk_lay_out(const struct kiosk_record *records, size_t records_len, uint16_t shop,
                       uint8_t *dst, size_t dst_len, size_t *place);
 
-/* The bytes that are lent for a listing. Every listing fits. */
+/* The bytes to lend for a listing. Every listing fits. */
 #define KIOSK_LISTING_ROOM 16384
 
-/* Writes the listing of a spool file (rules 9.1 to 9.4) at the start of `text` and gives its length; the
- * bytes behind it stay. No 0 ends the text. A file that does not open has the listing `refused` with the
- * number, and one longer than 65,536 bytes `refused 15`. */
+/* Writes the listing of a spool file (rules 9.1 to 9.4) at the start of `text` and gives its length;
+ * the bytes behind it stay as they were, and no 0 is put there. The listing of a file that does not
+ * open is `refused` with the number, and that of one longer than 65,536 bytes is `refused 15`. */
 size_t kiosk_listing(const uint8_t *file, size_t file_len, uint8_t text[KIOSK_LISTING_ROOM]);
 
 #ifdef __cplusplus

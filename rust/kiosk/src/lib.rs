@@ -60,8 +60,8 @@ pub struct RoundTrip {
     pub again: Result<usize, Refusal>,
 }
 
-/// Converts e-sRGB codes to luma and chroma in `ycc`, and `ycc` back to codes in `back` (rule 5.1). The second
-/// conversion is made also if the first is refused: it then converts what `ycc` held.
+/// Converts e-sRGB codes to luma and chroma in `ycc`, and `ycc` back to codes in `back` (rule 5.1). Where the first
+/// conversion is refused, the second converts what `ycc` held before.
 pub fn round_trip(depth: u32, codes: &[u8], ycc: &mut [u8], back: &mut [u8]) -> RoundTrip {
     let (there, again) = calls::round_trip(depth, codes, ycc, back);
     RoundTrip {
@@ -82,7 +82,8 @@ pub struct BothRuns {
 
 /// Converts an sRGB picture to e-sRGB in `codes`, these to luma and chroma in `ycc`, those back to e-sRGB in
 /// `back`, then `codes` to 8-bit sRGB in `direct` and `back` to 8-bit sRGB in `round` (rule 5.2). All five
-/// conversions are made: behind a refused one the others convert what its destination held.
+/// conversions are made: where one is refused, a later one that reads its destination converts what was there
+/// before.
 pub fn both_runs(
     depth: u32,
     picture: &[u8],

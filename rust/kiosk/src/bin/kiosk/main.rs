@@ -21,15 +21,16 @@ usage: kiosk list FILE
        kiosk compare FILE FRAME
        kiosk preview FILE FRAME --out FILE.png
 
-list      prints a heading and a line for each frame of a spool file of up to
-          65,536 bytes; a file that is refused has the line `refused N`, N being
-          the refusal's number, and the refusal in words on standard error
+list      prints a heading and a line for each frame of a spool file, or a line
+          with `refused` and a number, and why on standard error. A file of more
+          than 65,536 bytes is refused
 convert   writes a spool with the one frame, converted; with --raw only its pixels.
           FORM is srgb, esrgb10, esrgb12, esrgb16, lumachroma10, lumachroma12,
           lumachroma16, light10 or light12. Light is written raw, as signed
           32-bit numbers of millionths of reference white, the low byte first
-compare   takes the frame through luma and chroma and back, and says how many
-          channels come back equal, one less or one more, also at 8 bits
+compare   takes the frame through luma and chroma and back, an sRGB frame at each
+          depth, and says how many channels come back equal, one less or one
+          more, also at 8 bits
 preview   writes the frame as an 8-bit PNG picture
 
 Frames count from 0. The exit status is 0, 1 where something is refused or

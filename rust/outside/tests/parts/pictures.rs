@@ -328,7 +328,7 @@ pub fn runs_with_refusals() -> u64 {
             _ => random.pick(&DEPTHS),
         };
         let pixels = random.below(4);
-        // Codes of any depth, of which one may be too great, or 0, which chroma may not be.
+        // Codes that every depth has; one may be too great, or 0, which chroma may not be.
         let mut wide_buffer = || {
             let bytes = length(&mut random, pixels, 6) as usize;
             let mut codes = wide((0..12).map(|_| 1 + random.below(1023) as i64));

@@ -134,9 +134,9 @@ fn sound_start(chroma: bool, greatest: u16, src: &[u8]) -> usize
 }
 
 // The samples from number `start` on, up to the first at fault.
-fn first_fault(chroma: bool, greatest: u16, src: &[u8], pixels: usize, start: usize) -> Answer
+fn first_fault(chroma: bool, greatest: u16, src: &[u8], count: usize, start: usize) -> Answer
     requires { ⌜ SoundTo chroma greatest (twoByTwo (now src)) start ⌝ }
-    ensures { λ r. ⌜ said r ≡ samplesSay (Coding.Codes greatest chroma) (accepted pixels) 0 (twoByTwo (now (src .entry))) ⌝ }
+    ensures { λ r. ⌜ said r ≡ samplesSay (Coding.Codes greatest chroma) (accepted count) 0 (twoByTwo (now (src .entry))) ⌝ }
 {
     let end = src.len() / 2;
     let mut k = start;
@@ -150,7 +150,7 @@ fn first_fault(chroma: bool, greatest: u16, src: &[u8], pixels: usize, start: us
         }
         k += 1;
     }
-    Answer::Done(pixels)
+    Answer::Done(count)
 }
 
 // The least sample that the quick look takes for sound.

@@ -1,6 +1,6 @@
-// Runs the examples that are tested (rules 10.6 and 10.7: limits, depths, and the neutral patches of PIMA
-// 7667's table), and prints what the library gives. `stdout` beside this has what the second implementation gives for them: see
-// rust/reference, whose program of the same name prints it.
+// Runs the examples of rules 10.6 and 10.7, both runs of the blue of rule 10.5 and a walk over the sample
+// file, and prints what the library gives. `stdout` beside this has what the second implementation gives
+// for them: see rust/reference, whose program of the same name prints it.
 use libc::STDOUT_FILENO;
 use picture::Conversion;
 use spool::Found;
@@ -142,6 +142,84 @@ fn frames_row(low: u8, high: u8) {
     end_line();
 }
 
+// What the first three steps of a walk find, and the number after each, by value.
+struct Steps {
+    first: Found,
+    after_first: usize,
+    second: Found,
+    after_second: usize,
+    third: Found,
+    after_third: usize,
+}
+
+fn first_steps(file: &[u8]) -> Steps {
+    let one = frames::step(frames::frames_of(file));
+    let two = frames::step(one.rest);
+    let three = frames::step(two.rest);
+    Steps {
+        first: one.frame.found,
+        after_first: one.rest.next,
+        second: two.frame.found,
+        after_second: two.rest.next,
+        third: three.frame.found,
+        after_third: three.rest.next,
+    }
+}
+
+// A step: the offset of what is found, or the refusal's number, and the number after it.
+fn step_row(found: Found, next: usize) {
+    match found {
+        Found::Frame(frame) => {
+            io::write_all(STDOUT_FILENO, b"step");
+            show(frame.offset as u64);
+        }
+        Found::Refused(why) => {
+            io::write_all(STDOUT_FILENO, b"step refused");
+            show(refusal::number(why) as u64);
+        }
+    }
+    show(next as u64);
+    end_line();
+}
+
+// The header and the records of samples/two-frames.spool, whose pixels are not looked at.
+fn two_frames() -> [u8; 56] {
+    let mut file = [0u8; 56];
+    file[0] = 2;
+    file[2] = 7;
+    file[4] = 12;
+    file[8] = 56;
+    file[12] = 44;
+    file[16] = 2;
+    file[18] = 1;
+    file[20] = 1;
+    file[21] = 8;
+    file[22] = 1;
+    file[24] = 245;
+    file[25] = 1;
+    file[28] = 50;
+    file[32] = 1;
+    file[34] = 1;
+    file[36] = 2;
+    file[37] = 10;
+    file[38] = 3;
+    file[40] = 245;
+    file[41] = 1;
+    file
+}
+
+// The steps of a walk over that file, past its end.
+fn step_rows() {
+    let file = two_frames();
+    let steps = first_steps(&file);
+    let first = steps.first;
+    let second = steps.second;
+    let third = steps.third;
+    step_row(first, steps.after_first);
+    step_row(second, steps.after_second);
+    step_row(third, steps.after_third);
+}
+
 fn main() {
     depth_row(10, 12, 255, 3);
     depth_row(12, 10, 3, 6);
@@ -151,6 +229,7 @@ fn main() {
     width_row(1, 32);
     frames_row(255, 0);
     frames_row(0, 1);
+    step_rows();
     patch_row(0, 0);
     patch_row(10100, 10100);
     patch_row(30300, 30300);

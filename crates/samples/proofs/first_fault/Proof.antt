@@ -15,10 +15,10 @@ use Rattle.samples.proofs.first_fault.Statement.{statement}
 use Rattle.samples.proofs.first_fault.Tie as tie
 
 abbrev Inv-loop : tie.InvT-loop
-Inv-loop chroma greatest src pixels start end k₀ k = (k ≤ end) × (samplesSay (Codes greatest chroma) (accepted pixels) 0 (twoByTwo src) ≡ samplesSay (Codes greatest chroma) (accepted pixels) k (drop k (twoByTwo src)))
+Inv-loop chroma greatest src count start end k₀ k = (k ≤ end) × (samplesSay (Codes greatest chroma) (accepted count) 0 (twoByTwo src) ≡ samplesSay (Codes greatest chroma) (accepted count) k (drop k (twoByTwo src)))
 
 abbrev μ-loop : tie.MeasureT-loop
-μ-loop chroma greatest src pixels start end k₀ k = end - k
+μ-loop chroma greatest src count start end k₀ k = end - k
 
 -- sample k decides, or hands on to the samples behind it
 judged-here :
@@ -26,21 +26,21 @@ judged-here :
     → let at = c .before .before .before in
     let a = at .before .before .args in
     let xs = twoByTwo (a .src .now) in
-    samplesSay (Codes (a .greatest) (a .chroma)) (accepted (a .pixels)) (at .loop .k) (drop (at .loop .k) xs)
-    ≡ decides (verdict found) (2 * at .loop .k) (samplesSay (Codes (a .greatest) (a .chroma)) (accepted (a .pixels)) (at .loop .k + 1) (drop (at .loop .k + 1) xs))
+    samplesSay (Codes (a .greatest) (a .chroma)) (accepted (a .count)) (at .loop .k) (drop (at .loop .k) xs)
+    ≡ decides (verdict found) (2 * at .loop .k) (samplesSay (Codes (a .greatest) (a .chroma)) (accepted (a .count)) (at .loop .k + 1) (drop (at .loop .k + 1) xs))
 judged-here c found e =
     let at = c .before .before .before in
     let a = at .before .before .args in
     let xs = twoByTwo (a .src .now) in
     let k = at .loop .k in
-    say-at (Codes (a .greatest) (a .chroma)) (accepted (a .pixels)) xs k (omega (arith, length-two (a .src .now)))
-    ∙ ap (λ v. decides v (2 * k) (samplesSay (Codes (a .greatest) (a .chroma)) (accepted (a .pixels)) (k + 1) (drop (k + 1) xs)))
+    say-at (Codes (a .greatest) (a .chroma)) (accepted (a .count)) xs k (omega (arith, length-two (a .src .now)))
+    ∙ ap (λ v. decides v (2 * k) (samplesSay (Codes (a .greatest) (a .chroma)) (accepted (a .count)) (k + 1) (drop (k + 1) xs)))
     (ap (fault (Codes (a .greatest) (a .chroma)) k) (sym (c .before .wide-sample .ensures)) ∙ sym (c .look-at .ensures) ∙ ap verdict e)
 
 loop-holds : tie.Need-loop-holds Inv-loop μ-loop
 loop-holds c =
     let s = c .before in
-    (omega (arith, s .pre .inside, length-two (s .args .src .now)), s .pre .skips (accepted (s .args .pixels)))
+    (omega (arith, s .pre .inside, length-two (s .args .src .now)), s .pre .skips (accepted (s .args .count)))
 
 wide-sample-requires : tie.Need-wide-sample-requires Inv-loop μ-loop
 wide-sample-requires c κs = omega arith

@@ -1,5 +1,5 @@
-//! Prints what this implementation gives for the examples of rule 10.6 and for the neutral patches of rule
-//! 10.7, from PIMA 7667's table (4.4.3). The program `vectors` over the proved library must print the same.
+//! Prints what this implementation gives for the examples of rules 10.6 and 10.7, for both runs of the blue of rule
+//! 10.5 and for a walk over the sample file. The program `vectors` over the proved library must print the same.
 
 use reference::{light, samples, spool};
 
@@ -13,6 +13,29 @@ fn spool_with(count: u16, width: u16, length: usize) -> Vec<u8> {
     file[18..20].copy_from_slice(&1u16.to_le_bytes());
     file[20] = 1;
     file[21] = 8;
+    file
+}
+
+/// The file samples/two-frames.spool, but for its pixels.
+fn two_frames() -> Vec<u8> {
+    let first = spool::Record {
+        offset: 0,
+        width: 2,
+        height: 1,
+        kind: 1,
+        bits: 8,
+        copies: 1,
+        order: 501,
+    };
+    let second = spool::Record {
+        width: 1,
+        kind: 2,
+        bits: 10,
+        copies: 3,
+        ..first
+    };
+    let mut file = vec![0; 56];
+    spool::lay_out(&[first, second], 7, &mut file).expect("the records stand");
     file
 }
 
@@ -45,6 +68,16 @@ fn main() {
         let file = spool_with(count, 0, 12 + 16 * 256);
         let refusal = spool::open(&file).map_or_else(|refusal| refusal.number, |_| 0);
         println!("frames {count} {refusal}");
+    }
+    let file = two_frames();
+    let mut next = 0;
+    for _ in 0..3 {
+        let found;
+        (found, next) = spool::step(&file, next);
+        match found {
+            Ok(record) => println!("step {} {next}", record.offset),
+            Err(refusal) => println!("step refused {} {next}", refusal.number),
+        }
     }
     // Y of the table, in hundred-thousandths as printed there.
     for y in [0, 1010, 3030, 7071, 14141, 29293, 59596, 79798, 100000] {

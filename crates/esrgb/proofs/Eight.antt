@@ -7,7 +7,11 @@ use native.Mathlib.Nat.{div-eq-of-lt-le, mul-add, mul-le-mul-left, le-pred-of-lt
 use Rattle.numbers.specs.Rounding.{nearest}
 use Rattle.esrgb.specs.Depths.{step}
 use Rattle.esrgb.specs.Codes.{fromSrgb, toSrgb}
+use Rattle.esrgb.specs.declared.Cut.{Cut}
+use Rattle.esrgb.specs.declared.SampleRule.the-variants.{ToEight}
+use Rattle.esrgb.specs.HowApplied.{applied, cutOf}
 use Rattle.esrgb.proofs.Scale.{Scale}
+use Rattle.esrgb.proofs.Rules.{to-srgb-computes}
 
 pub from-srgb-code : (n a : ℕ) → Scale n → a < 256 → fromSrgb n a < 2 ^ n
 unfolding fromSrgb
@@ -31,3 +35,15 @@ to-srgb-nearest n a code s low high =
 
 pub to-srgb-exact : (n a : ℕ) → Scale n → a < 256 → toSrgb n (fromSrgb n a) ≡ a
 to-srgb-exact n a s h = omega (arith, to-srgb-nearest n a (fromSrgb n a) s (omega arith) (omega arith))
+
+-- ---- single samples, as the code computes them
+pub from-srgb-product : (n a : ℕ) → Scale n → step n * (a + 192) ≡ fromSrgb n a
+unfolding fromSrgb
+from-srgb-product n a s = omega (arith, mul-add (step n) a 192)
+
+cut-byte : (cut : Cut) (x : ℕ) → applied (ToEight cut) x < 256
+unfolding applied
+cut-byte cut x = omega arith
+
+pub cut-value : (n x : ℕ) → Scale n → applied (ToEight (cutOf n)) x ≡ toSrgb n x
+cut-value n x s = omega (arith, to-srgb-computes n s x, cut-byte (cutOf n) x, to-srgb-byte n x)

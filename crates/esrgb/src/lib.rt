@@ -3,8 +3,8 @@
 // sample.
 ghost use mathlib.Core.Path.{_≡_};
 ghost use Rattle.esrgb.specs.Depths.{bits, Names, greatest, step};
-ghost use Rattle.esrgb.specs.Codes.{fromSrgb, toSrgb, changeDepth};
-ghost use Rattle.esrgb.specs.HowApplied.{applied, ruleOf, Computes, lineOf, cutOf, changeOf};
+ghost use Rattle.esrgb.specs.Codes.{fromSrgb, toSrgb};
+ghost use Rattle.esrgb.specs.HowApplied.{applied, lineOf, cutOf, changeOf};
 
 // A depth of e-sRGB.
 pub enum Depth {
@@ -105,10 +105,9 @@ fn to_eight(cut: Cut, sample: u16) -> u16
     if 255 < value { 255 } else { value }
 }
 
-// sRGB to e-sRGB.
-pub fn from_srgb(depth: Depth) -> Line
-    ensures rule { λ r. ⌜ r ≡ lineOf (bits depth) ⌝ }
-    ensures computes { λ r. ⌜ Computes (SampleRule.Affine r) (fromSrgb (bits depth)) ⌝ }
+// The rule from sRGB.
+pub fn line_of(depth: Depth) -> Line
+    ensures { λ r. ⌜ r ≡ lineOf (bits depth) ⌝ }
 {
     let step = step_of(depth);
     Line {
@@ -117,10 +116,9 @@ pub fn from_srgb(depth: Depth) -> Line
     }
 }
 
-// e-sRGB to sRGB. From half a step below the offset on, the nearest value is no longer below 0.
-pub fn to_srgb(depth: Depth) -> Cut
-    ensures rule { λ r. ⌜ r ≡ cutOf (bits depth) ⌝ }
-    ensures computes { λ r. ⌜ Computes (SampleRule.ToEight r) (toSrgb (bits depth)) ⌝ }
+// The rule to sRGB. From half a step below the offset on, the nearest value is no longer below 0.
+pub fn cut_of(depth: Depth) -> Cut
+    ensures { λ r. ⌜ r ≡ cutOf (bits depth) ⌝ }
 {
     let step = step_of(depth);
     Cut {
@@ -129,15 +127,14 @@ pub fn to_srgb(depth: Depth) -> Cut
     }
 }
 
-// How codes go from one depth to another: by a factor, or by dropping low bits.
+// The rule from one depth to another: by a factor, or by dropping low bits.
 pub enum DepthChange {
     Up(Line),
     Down(u16),
 }
 
-pub fn change_depth(from: Depth, to: Depth) -> DepthChange
-    ensures rule { λ r. ⌜ r ≡ changeOf (bits from) (bits to) ⌝ }
-    ensures computes { λ r. ⌜ Computes (ruleOf r) (changeDepth (bits from) (bits to)) ⌝ }
+pub fn change_of(from: Depth, to: Depth) -> DepthChange
+    ensures { λ r. ⌜ r ≡ changeOf (bits from) (bits to) ⌝ }
 {
     let n = bits_of(from);
     let m = bits_of(to);
@@ -149,4 +146,18 @@ pub fn change_depth(from: Depth, to: Depth) -> DepthChange
     } else {
         DepthChange::Down(n - m)
     }
+}
+
+// One value of sRGB as a code.
+pub fn from_srgb(depth: Depth, value: u8) -> u16
+    ensures { λ r. ⌜ r ≡ fromSrgb (bits depth) value ⌝ }
+{
+    step_of(depth) * (value as u16 + 192)
+}
+
+// One code as a value of sRGB.
+pub fn to_srgb(depth: Depth, code: u16) -> u8
+    ensures { λ r. ⌜ r ≡ toSrgb (bits depth) code ⌝ }
+{
+    to_eight(cut_of(depth), code) as u8
 }

@@ -14,22 +14,21 @@ use Rattle.samples.specs.Faults.{Exact}
 use Rattle.samples.proofs.Reading.{length-two}
 use Rattle.samples.proofs.Buffers.{length-read}
 use Rattle.esrgb.specs.declared.Depth.{Depth}
-use Rattle.esrgb.specs.declared.Line.{Line}
-use Rattle.esrgb.specs.declared.Cut.{Cut}
+use Rattle.esrgb.specs.declared.DepthChange.{DepthChange}
+use Rattle.esrgb.specs.declared.DepthChange.the-variants.{Up, Down}
 use Rattle.esrgb.specs.declared.SampleRule.{SampleRule}
-use Rattle.esrgb.specs.declared.SampleRule.the-variants as sample
-use Rattle.esrgb.specs.declared.SampleRule.the-variants.{Affine, ToEight}
 use Rattle.esrgb.specs.Depths.{bits, greatest}
 use Rattle.esrgb.specs.Codes.{fromSrgb, toSrgb, changeDepth}
-use Rattle.esrgb.specs.HowApplied.{applied, Computes}
-use Rattle.esrgb.proofs.Scale.{offered-bits}
+use Rattle.esrgb.specs.HowApplied.{applied, ruleOf, Computes, lineOf, cutOf, changeOf}
+use Rattle.esrgb.proofs.Scale.{scale, offered-bits}
+use Rattle.esrgb.proofs.Rules.{from-srgb-computes, to-srgb-computes, change-computes}
 use Rattle.picture.specs.declared.Conversion.{Conversion}
 use Rattle.picture.specs.declared.Conversion.the-variants.{FromSrgb, ToSrgb, ChangeDepth, ToLumaChroma, FromLumaChroma}
 use Rattle.picture.specs.declared.PixelRule.the-variants as rule
 use Rattle.picture.specs.declared.Work.{Work}
-use Rattle.picture.specs.declared.Work.the-variants.{Widen, Narrow, Scale, Drop, Pixels}
+use Rattle.picture.specs.declared.Work.the-variants.{Widen, Narrow, Pixels}
 use Rattle.picture.specs.Convert.{each, converted}
-use Rattle.picture.specs.HowConverted.{Changes, Plans}
+use Rattle.picture.specs.HowConverted.{changeBy, changing, Plans}
 
 -- ---- lengths
 pub room-samples :
@@ -64,7 +63,7 @@ same-bytes true x y h =
     cc
 same-bytes false x y h = let low : x % 256 ≡ y % 256 = omega arith in cc
 
-pub same-samples : (wide : Bool) (rule : SampleRule) (f : ℕ → ℕ) (xs : List ℕ) → Computes rule f → bytesOf wide (map (applied rule) xs) ≡ bytesOf wide (map f xs)
+same-samples : (wide : Bool) (rule : SampleRule) (f : ℕ → ℕ) (xs : List ℕ) → Computes rule f → bytesOf wide (map (applied rule) xs) ≡ bytesOf wide (map f xs)
 same-samples wide rule f [] h = refl
 same-samples wide rule f (x ∷ xs) h = rw (same-bytes wide (applied rule x) (f x) (h x), same-samples wide rule f xs h)
 
@@ -73,45 +72,48 @@ by-pixels :
     → bytesOf to (map f (samplesOf from src)) ≡ write to (map (each f) (read from src))
 by-pixels from to f src h = ap (bytesOf to) (sym (each-sample f (samplesOf from src) (whole-samples from src h)))
 
--- ---- the loops of a change of depth
-module _ (from to : Depth) where
-  pub scale-changes : (line : Line) → Computes (Affine line) (changeDepth (bits from) (bits to)) → Changes from to (Scale line)
-  scale-changes line h = record { reads = refl; writes = refl; makes = λ src. same-samples true (Affine line) _ (samplesOf true src) h }
-
-  pub drop-changes : (shift : ℕ) → Computes (sample.Drop shift) (changeDepth (bits from) (bits to)) → Changes from to (Drop shift)
-  drop-changes shift h = record { reads = refl; writes = refl; makes = λ src. same-samples true (sample.Drop shift) _ (samplesOf true src) h }
-
 -- ---- the conversions, at depths that are offered
 module _ (d : Depth) where
-  pub plan-from-srgb : (line : Line) → Computes (Affine line) (fromSrgb (bits d)) → Plans (FromSrgb (bits d)) Bytes (Widen line)
+  pub plan-from-srgb : Plans (FromSrgb (bits d)) Bytes (Widen (lineOf (bits d)))
   unfolding converted
-  plan-from-srgb line h = record {
+  plan-from-srgb = record {
     offered = offered-bits d;
     coding-is = refl;
     reads = refl;
     writes = refl;
-    makes = λ src whole. same-samples true (Affine line) (fromSrgb (bits d)) src h ∙ by-pixels false true (fromSrgb (bits d)) src whole;
+    makes = λ src whole. same-samples true _ (fromSrgb (bits d)) src (from-srgb-computes (bits d)) ∙ by-pixels false true (fromSrgb (bits d)) src whole;
   }
 
-  pub plan-to-srgb : (cut : Cut) → Computes (ToEight cut) (toSrgb (bits d)) → Plans (ToSrgb (bits d)) (Codes (greatest (bits d)) false) (Narrow cut)
+  pub plan-to-srgb : Plans (ToSrgb (bits d)) (Codes (greatest (bits d)) false) (Narrow (cutOf (bits d)))
   unfolding converted
-  plan-to-srgb cut h = record {
+  plan-to-srgb = record {
     offered = rw (offered-bits d);
     coding-is = refl;
     reads = refl;
     writes = refl;
-    makes = λ src whole. same-samples false (ToEight cut) (toSrgb (bits d)) (samplesOf true src) h ∙ by-pixels true false (toSrgb (bits d)) src whole;
+    makes = λ src whole. same-samples false _ (toSrgb (bits d)) (samplesOf true src) (to-srgb-computes (bits d) (scale d)) ∙ by-pixels true false (toSrgb (bits d)) src whole;
   }
 
-  pub plan-change : (to : Depth) (work : Work) → Changes d to work → Plans (ChangeDepth (bits d) (bits to)) (Codes (greatest (bits d)) false) work
+  -- a change of depth, by either rule
+  plan-by : (to : Depth) (change : DepthChange) → Computes (ruleOf change) (changeDepth (bits d) (bits to)) → Plans (ChangeDepth (bits d) (bits to)) (Codes (greatest (bits d)) false) (changeBy change)
   unfolding converted
-  plan-change to work h = record {
+  plan-by to (Up line) h = record {
     offered = rw (offered-bits d, offered-bits to);
     coding-is = refl;
-    reads = sym (h .reads);
-    writes = sym (h .writes);
-    makes = λ src whole. h .makes src ∙ by-pixels true true (changeDepth (bits d) (bits to)) src whole;
+    reads = refl;
+    writes = refl;
+    makes = λ src whole. same-samples true _ (changeDepth (bits d) (bits to)) (samplesOf true src) h ∙ by-pixels true true (changeDepth (bits d) (bits to)) src whole;
   }
+  plan-by to (Down shift) h = record {
+    offered = rw (offered-bits d, offered-bits to);
+    coding-is = refl;
+    reads = refl;
+    writes = refl;
+    makes = λ src whole. same-samples true _ (changeDepth (bits d) (bits to)) (samplesOf true src) h ∙ by-pixels true true (changeDepth (bits d) (bits to)) src whole;
+  }
+
+  pub plan-change : (to : Depth) → Plans (ChangeDepth (bits d) (bits to)) (Codes (greatest (bits d)) false) (changing (bits d) (bits to))
+  plan-change to = plan-by to (changeOf (bits d) (bits to)) (change-computes (bits d) (bits to) (omega (arith, scale d .most, scale to .least)))
 
   pub plan-to-luma-chroma : Plans (ToLumaChroma (bits d)) (Codes (greatest (bits d)) false) (Pixels (rule.ToLumaChroma d))
   unfolding converted
@@ -121,6 +123,8 @@ module _ (d : Depth) where
   unfolding converted
   plan-from-luma-chroma = record { offered = rw (offered-bits d); coding-is = refl; reads = refl; writes = refl; makes = λ src whole. refl }
 
--- ---- a conversion and a coding that are known by equations
-pub same-plan : {c c′ : Conversion} {coding coding′ : Coding} {work : Work} → c ≡ c′ → coding ≡ coding′ → Plans c′ coding′ work → Plans c coding work
-same-plan e f p = rw (e, f) p
+-- ---- a conversion, a coding and a loop that are known by equations
+pub same-plan :
+    {c c′ : Conversion} {coding coding′ : Coding} {work work′ : Work} → c ≡ c′ → coding ≡ coding′ → work ≡ work′
+    → Plans c′ coding′ work′ → Plans c coding work
+same-plan e f g p = rw (e, f, g) p

@@ -9,11 +9,11 @@ use Rattle.samples.specs.declared.Pixel.{Pixel}
 use Rattle.samples.specs.declared.Coding.{Coding}
 use Rattle.samples.specs.Samples.{pixelSize, samplesOf, bytesOf, read, write}
 use Rattle.samples.specs.Faults.{wideCoding}
-use Rattle.esrgb.specs.declared.Depth.{Depth}
+use Rattle.esrgb.specs.declared.DepthChange.{DepthChange}
+use Rattle.esrgb.specs.declared.DepthChange.the-variants.{Up, Down}
 use Rattle.esrgb.specs.Depths.{bits}
-use Rattle.esrgb.specs.Codes.{changeDepth}
 use Rattle.esrgb.specs.declared.SampleRule.the-variants as sample
-use Rattle.esrgb.specs.HowApplied.{applied}
+use Rattle.esrgb.specs.HowApplied.{applied, changeOf}
 use Rattle.lumachroma.specs.LumaChroma.{toLumaChroma, toRgb}
 use Rattle.picture.specs.declared.Conversion.{Conversion}
 use Rattle.picture.specs.declared.PixelRule.{PixelRule}
@@ -52,11 +52,13 @@ made (Scale line) src = bytesOf true (map (applied (sample.Affine line)) (sample
 made (Drop shift) src = bytesOf true (map (applied (sample.Drop shift)) (samplesOf true src))
 made (Pixels rule) src = write true (map (pixelApplied rule) (read true src))
 
--- A loop that changes the depth of each code.
-pub record Changes (from to : Depth) (work : Work) : Type 0 where
-  pub reads : readsWide work ≡ true
-  pub writes : writesWide work ≡ true
-  pub makes : (src : List ℕ) → made work src ≡ bytesOf true (map (changeDepth (bits from) (bits to)) (samplesOf true src))
+-- The loop that changes the depth of each code.
+abbrev pub changeBy : DepthChange → Work
+changeBy (Up line) = Scale line
+changeBy (Down shift) = Drop shift
+
+abbrev pub changing : ℕ → ℕ → Work
+changing n m = changeBy (changeOf n m)
 
 -- A plan of a conversion: what its source may be, and a loop that does it.
 pub record Plans (c : Conversion) (coding : Coding) (work : Work) : Type 0 where

@@ -23,7 +23,7 @@ ghost use Rattle.samples.specs.Faults.{Exact, wideCoding, sourceSays};
 ghost use Rattle.esrgb.specs.Depths.{bits, greatest};
 ghost use Rattle.esrgb.specs.HowApplied.{applied};
 ghost use Rattle.picture.specs.Convert.{convertSays, convertBytes};
-ghost use Rattle.picture.specs.HowConverted.{pixelApplied, readsWide, writesWide, made, Changes, Planned};
+ghost use Rattle.picture.specs.HowConverted.{pixelApplied, readsWide, writesWide, made, changing, Planned};
 
 // The conversions of rule 4.1. A depth may be any number; rule 1.1 says which are offered.
 pub enum Conversion {
@@ -149,9 +149,9 @@ fn codes(depth: Depth, chroma: bool) -> Coding
 
 // From one depth to another.
 fn change(from: Depth, to: Depth) -> Work
-    ensures { λ r. ⌜ Changes from to r ⌝ }
+    ensures { λ r. ⌜ r ≡ changing (bits from) (bits to) ⌝ }
 {
-    let change = esrgb::change_depth(from, to);
+    let change = esrgb::change_of(from, to);
     match change {
         DepthChange::Up(line) => Work::Scale(line),
         DepthChange::Down(shift) => Work::Drop(shift),
@@ -165,11 +165,11 @@ fn planned(conversion: Conversion) -> Plan
 {
     match conversion {
         Conversion::FromSrgb { depth } => match esrgb::depth_of(depth) {
-            Offer::Offered(n) => Plan::Run(Coding::Bytes, Work::Widen(esrgb::from_srgb(n))),
+            Offer::Offered(n) => Plan::Run(Coding::Bytes, Work::Widen(esrgb::line_of(n))),
             Offer::NotOffered => Plan::NotOffered,
         },
         Conversion::ToSrgb { depth } => match esrgb::depth_of(depth) {
-            Offer::Offered(n) => Plan::Run(codes(n, false), Work::Narrow(esrgb::to_srgb(n))),
+            Offer::Offered(n) => Plan::Run(codes(n, false), Work::Narrow(esrgb::cut_of(n))),
             Offer::NotOffered => Plan::NotOffered,
         },
         Conversion::ChangeDepth { from, to } => match esrgb::depth_of(from) {

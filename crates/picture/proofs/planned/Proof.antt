@@ -4,6 +4,7 @@ use mathlib.Core.Path.{_≡_, refl, ap, ap₂, subst, _∙_}
 use Rattle.numbers.proofs.Booleans.{and-false}
 use Rattle.esrgb.specs.Depths.{bits, offered, Names}
 use Rattle.picture.specs.declared.Conversion.the-variants.{FromSrgb, ToSrgb, ChangeDepth, ToLumaChroma, FromLumaChroma}
+use Rattle.picture.specs.declared.Work.the-variants.{Widen, Narrow}
 use Rattle.picture.specs.Forms.{offers}
 use Rattle.picture.proofs.Planning.{same-plan, plan-from-srgb, plan-to-srgb, plan-change, plan-to-luma-chroma, plan-from-luma-chroma}
 use borrow.Author.Needs.{needs}
@@ -19,8 +20,8 @@ depth-of-requires c κs = search needs
 enum-known-n : tie.Need-enum-known-n
 enum-known-n c = search needs
 
-from-srgb-requires : tie.Need-from-srgb-requires
-from-srgb-requires c κs = search needs
+line-of-requires : tie.Need-line-of-requires
+line-of-requires c κs = search needs
 
 enum-told : tie.Need-enum-told
 enum-told c = search needs
@@ -37,8 +38,8 @@ enum-known-n-2 c = search needs
 codes-requires : tie.Need-codes-requires
 codes-requires c κs = search needs
 
-to-srgb-requires : tie.Need-to-srgb-requires
-to-srgb-requires c κs = search needs
+cut-of-requires : tie.Need-cut-of-requires
+cut-of-requires c κs = search needs
 
 enum-told-2 : tie.Need-enum-told-2
 enum-told-2 c = search needs
@@ -104,7 +105,7 @@ returns : tie.Need-returns
 returns c =
     let conversion = c .before .before .before .before .before .before .conversion .given in
     let named = subst (Names (conversion .0 .0)) (c .before .before .n .given .1) (c .before .before .before .before .depth-of .ensures) in
-    same-plan (conversion .1 ∙ ap FromSrgb named) refl (plan-from-srgb (c .before .before .n .given .0 .0) _ (c .from-srgb .ensures .1))
+    same-plan (conversion .1 ∙ ap FromSrgb named) refl (ap Widen (c .line-of .ensures)) (plan-from-srgb (c .before .before .n .given .0 .0))
 
 returns-2 : tie.Need-returns-2
 returns-2 c =
@@ -116,7 +117,7 @@ returns-3 : tie.Need-returns-3
 returns-3 c =
     let conversion = c .before .before .before .before .before .before .before .conversion2 .given in
     let named = subst (Names (conversion .0 .0)) (c .before .before .before .n2 .given .1) (c .before .before .before .before .before .depth-of2 .ensures) in
-    same-plan (conversion .1 ∙ ap ToSrgb named) (c .before .codes .ensures) (plan-to-srgb (c .before .before .before .n2 .given .0 .0) _ (c .to-srgb .ensures .1))
+    same-plan (conversion .1 ∙ ap ToSrgb named) (c .before .codes .ensures) (ap Narrow (c .cut-of .ensures)) (plan-to-srgb (c .before .before .before .n2 .given .0 .0))
 
 returns-4 : tie.Need-returns-4
 returns-4 c =
@@ -129,7 +130,7 @@ returns-5 c =
     let conversion = c .before .before .before .before .before .before .before .before .before .before .before .conversion3 .given in
     let from-named = subst (Names (conversion .0 .0)) (c .before .before .before .before .before .before .before .n3 .given .1) (c .before .before .before .before .before .before .before .before .before .depth-of3 .ensures) in
     let to-named = subst (Names (conversion .0 .1 .0)) (c .before .before .before .m .given .1) (c .before .before .before .before .before .depth-of4 .ensures) in
-    same-plan (conversion .1 ∙ ap₂ ChangeDepth from-named to-named) (c .before .codes2 .ensures) (plan-change _ _ _ (c .change .ensures))
+    same-plan (conversion .1 ∙ ap₂ ChangeDepth from-named to-named) (c .before .codes2 .ensures) (c .change .ensures) (plan-change (c .before .before .before .before .before .before .before .n3 .given .0 .0) (c .before .before .before .m .given .0 .0))
 
 returns-6 : tie.Need-returns-6
 returns-6 c =
@@ -147,7 +148,7 @@ returns-8 : tie.Need-returns-8
 returns-8 c =
     let conversion = c .before .before .before .before .before .before .conversion4 .given in
     let named = subst (Names (conversion .0 .0)) (c .before .before .n4 .given .1) (c .before .before .before .before .depth-of5 .ensures) in
-    same-plan (conversion .1 ∙ ap ToLumaChroma named) (c .codes3 .ensures) (plan-to-luma-chroma _)
+    same-plan (conversion .1 ∙ ap ToLumaChroma named) (c .codes3 .ensures) refl (plan-to-luma-chroma _)
 
 returns-9 : tie.Need-returns-9
 returns-9 c =
@@ -159,7 +160,7 @@ returns-10 : tie.Need-returns-10
 returns-10 c =
     let conversion = c .before .before .before .before .before .before .conversion5 .given in
     let named = subst (Names (conversion .0 .0)) (c .before .before .n5 .given .1) (c .before .before .before .before .depth-of6 .ensures) in
-    same-plan (conversion .1 ∙ ap FromLumaChroma named) (c .codes4 .ensures) (plan-from-luma-chroma _)
+    same-plan (conversion .1 ∙ ap FromLumaChroma named) (c .codes4 .ensures) refl (plan-from-luma-chroma _)
 
 returns-11 : tie.Need-returns-11
 returns-11 c =
@@ -174,13 +175,13 @@ planned-spec =
     enum-known-conversion
     depth-of-requires
     enum-known-n
-    from-srgb-requires
+    line-of-requires
     enum-told
     enum-known-conversion-2
     depth-of-requires-2
     enum-known-n-2
     codes-requires
-    to-srgb-requires
+    cut-of-requires
     enum-told-2
     enum-known-conversion-3
     depth-of-requires-3

@@ -2,20 +2,22 @@
 -- Assumes nothing.
 use Prim.Native.Nat.{ℕ, _+_, _*_, _/_, _%_, _^_, _<_}
 use mathlib.Core.Path.{_≡_, refl}
-use mathlib.Core.Bool.{Bool, true, false, cond}
+use mathlib.Core.Bool.{Bool, true, false, cond, not}
 use mathlib.Core.List.{List, [], _∷_}
 use native.Mathlib.Nat.{lt-of-le-of-lt}
 use native.Mathlib.Omega.{arith}
 use lib.Dec.{eqb, ltb, lit<}
 use borrow.Author.Tests.{ltb-false}
 use lib.ListN.{length}
-use Rattle.refusal.specs.Answers.{Said, accepted, refused, refusedAt}
-use Rattle.samples.specs.Samples.{place, pixelSize, sampleCount, samplesOf, twoByTwo}
-use Rattle.samples.specs.Faults.{Verdict, sound, faulty, fault, decides, judged, inOrder}
+use Rattle.refusal.specs.Answers.{Verdict, sound, faulty, Said, accepted, refused, refusedAt}
+use Rattle.samples.specs.declared.Coding.{Coding}
+use Rattle.samples.specs.declared.Coding.the-variants.{Codes}
+use Rattle.samples.specs.Samples.{place, pixelSize, samplesOf}
+use Rattle.samples.specs.Faults.{wideCoding, fault, decides, samplesSay, inOrder, sourceSays}
 use Rattle.esrgb.specs.Depths.{greatest}
 use Rattle.picture.specs.declared.Conversion.{Conversion}
-use Rattle.picture.specs.Forms.{bitsOf, hasChroma, wideForm, source, offers}
-use Rattle.picture.specs.Convert.{pixelCount, needed, sourceSays, convertSays}
+use Rattle.picture.specs.Forms.{codingOf, wideForm, source, target, offers}
+use Rattle.picture.specs.Convert.{convertSays}
 use Rattle.transfer.specs.Light.{offersLight}
 use Rattle.linear.specs.Operations.{codesToLightSays, lightToCodesSays}
 use Rattle.records.specs.declared.FrameRecord.{FrameRecord}
@@ -29,41 +31,43 @@ decided : (v : Verdict) (at : ℕ) (rest : Said) → Countable rest → Countabl
 decided sound at rest h = h
 decided (faulty n) at rest h = tt
 
-module _ (wide chroma : Bool) (greatest : ℕ) (done : Said) (h : Countable done) where
-  samples-say : (k : ℕ) (xs : List ℕ) → Countable (judged wide chroma greatest done k xs)
-  unfolding judged
-  samples-say k [] = h
-  samples-say k (x ∷ xs) = decided (fault chroma greatest k x) (place wide k) _ (samples-say (k + 1) xs)
+or-refused : (b : Bool) (k : ℕ) (s : Said) → Countable s → Countable (cond b (refused k) s)
+or-refused true k s h = tt
+or-refused false k s h = h
 
-ordered : (o w e : Bool) (samples : Said) → Countable samples → Countable (inOrder o w e samples)
-ordered false w e samples h = tt
-ordered true false e samples h = tt
-ordered true true false samples h = tt
-ordered true true true samples h = h
+module _ (coding : Coding) (done : Said) (h : Countable done) where
+  samples-say : (k : ℕ) (xs : List ℕ) → Countable (samplesSay coding done k xs)
+  unfolding samplesSay
+  samples-say k [] = h
+  samples-say k (x ∷ xs) = decided (fault coding k x) (place (wideCoding coding) k) _ (samples-say (k + 1) xs)
 
 pixels : (wide : Bool) (len : ℕ) → len < 2 ^ 63 → len / pixelSize wide < 2 ^ 63
 pixels true len h = omega arith
 pixels false len h = omega arith
 
+ordered : (offered from to : Bool) (len room : ℕ) (s : Said) → Countable s → Countable (inOrder offered from to len room s)
+ordered offered from to len room s h =
+    let exact = cond (not (eqb room (pixelSize to * (len / pixelSize from)))) (refused 11) s in
+    or-refused (not offered) 9 (cond (not (eqb (len % pixelSize from) 0)) (refused 10) exact)
+    (or-refused (not (eqb (len % pixelSize from) 0)) 10 exact (or-refused (not (eqb room (pixelSize to * (len / pixelSize from)))) 11 s h))
+
+source-counts : (offered : Bool) (coding : Coding) (to : Bool) (src : List ℕ) (room : ℕ) → length src < 2 ^ 63
+    → Countable (sourceSays offered coding to src room)
+unfolding sourceSays
+source-counts offered coding to src room h =
+    let wide = wideCoding coding in
+    ordered offered wide to (length src) room _
+    (samples-say coding (accepted (length src / pixelSize wide)) (pixels wide (length src) h) 0 (samplesOf wide src))
+
 pub convert-counts : (c : Conversion) (src : List ℕ) (room : ℕ) → length src < 2 ^ 63 → Countable (convertSays c src room)
-unfolding convertSays
-convert-counts c src room h =
-    let wide = wideForm (source c) in
-    ordered (offers c) (eqb (length src % pixelSize wide) 0) (eqb room (needed c src)) (sourceSays c src)
-    (samples-say wide (hasChroma (source c)) (greatest (bitsOf (source c))) (accepted (pixelCount c src)) (pixels wide (length src) h) 0
-    (samplesOf wide src))
+convert-counts c src room h = source-counts (offers c) (codingOf (source c)) (wideForm (target c)) src room h
 
 pub light-counts : (n : ℕ) (src : List ℕ) (room : ℕ) → length src < 2 ^ 63 → Countable (codesToLightSays n src room)
-unfolding codesToLightSays
-light-counts n src room h =
-    ordered (offersLight n) (eqb (length src % pixelSize true) 0) (eqb room (sampleCount true (length src)))
-    (judged true false (greatest n) (accepted (length src / pixelSize true)) 0 (twoByTwo src))
-    (samples-say true false (greatest n) (accepted (length src / pixelSize true)) (pixels true (length src) h) 0 (twoByTwo src))
+light-counts n src room h = source-counts (offersLight n) (Codes (greatest n) false) false src room h
 
 pub code-counts : (n numbers room : ℕ) → numbers < 2 ^ 63 → Countable (lightToCodesSays n numbers room)
-unfolding lightToCodesSays
 code-counts n numbers room h =
-    ordered (offersLight n) (eqb (numbers % 3) 0) (eqb room (2 * numbers)) (accepted (numbers / 3)) (pixels false numbers h)
+    ordered (offersLight n) false true numbers room (accepted (numbers / 3)) (pixels false numbers h)
 
 pub frame-counts : (r : FrameRecord) → r .width < 2 ^ 16 → r .height < 2 ^ 16 → pixelBytes r < 2 ^ 63
 frame-counts r w h = lt-of-le-of-lt (pixels-small r w h) (lit< tt)
@@ -84,14 +88,10 @@ totals true b total e = tt
 totals false true total e = omega (arith, ltb-false lengthLimit total e)
 totals false false total e = tt
 
-by-number : (many : Bool) (s : Said) → Countable s → Countable (cond many (refused 3) s)
-by-number true s h = tt
-by-number false s h = h
-
 pub layout-counts : (rs : List FrameRecord) (room : ℕ) → Countable (layoutSays rs room)
 unfolding layoutSays
 layout-counts rs room =
     let total = totalLength rs in
     let verdict = cond (ltb lengthLimit total) (refused 14) (cond (eqb room total) (accepted total) (refused 11)) in
-    by-number (ltb frameLimit (length rs)) (judged-records verdict 0 rs)
+    or-refused (ltb frameLimit (length rs)) 3 (judged-records verdict 0 rs)
     (records-say verdict (totals (ltb lengthLimit total) (eqb room total) total refl) 0 rs)

@@ -18,5 +18,4 @@ gives new dst place e content answer at =
 pub converts : (c : Conversion) (src dst : List ℕ) (place : ℕ) {s : Said} {r : ℤ} {dst′ : List ℕ} {place′ : ℕ}
     → s ≡ convertSays c src (length dst) → dst′ ≡ convertBytes c src dst → r ≡ answerOf s → place′ ≡ placeOf s place
     → Converts c src r dst dst′ place place′
-unfolding convertBytes
 converts c src dst place e content answer at = gives _ dst place e content answer at

@@ -1,9 +1,11 @@
 -- What the operations on buffers answer and write (rule 6.7).
 -- Assumes nothing.
 use Prim.Native.Nat.{ℕ, _/_}
-use mathlib.Core.Bool.{true, false}
+use mathlib.Core.Bool.{true, false, cond, not}
 use mathlib.Core.List.{List, map}
+use lib.Dec.{ltb}
 use lib.IntN.{ℤ}
+use Rattle.refusal.specs.Refusals.{numberOf}
 use Rattle.refusal.specs.Answers.{Said, accepted}
 use Rattle.samples.specs.declared.Coding.the-variants.{Codes}
 use Rattle.samples.specs.Samples.{twoByTwo, bytesOf}
@@ -11,6 +13,12 @@ use Rattle.samples.specs.Faults.{inOrder, sourceSays}
 use Rattle.esrgb.specs.Depths.{greatest}
 use Rattle.transfer.specs.Light.{offersLight, lightOfCode}
 use Rattle.transfer.specs.Level.{codeOfLight}
+use Rattle.linear.specs.declared.LightFound.{LightFound}
+use Rattle.linear.specs.declared.LightFound.the-variants as light-found
+use Rattle.linear.specs.declared.LightFound.the-variants.{Light}
+use Rattle.linear.specs.declared.CodeFound.{CodeFound}
+use Rattle.linear.specs.declared.CodeFound.the-variants as code-found
+use Rattle.linear.specs.declared.CodeFound.the-variants.{Code}
 
 -- Codes to light: 9, 10, 11, then the samples, in Convert's order. The source is bytes, two to a sample, and the destination has
 -- `room` numbers, one to a sample.
@@ -29,3 +37,22 @@ lightToCodesSays n numbers room = inOrder (offersLight n) false true numbers roo
 -- What it writes if it accepts: the code of each light, two bytes each.
 abbrev pub lightToCodes : ℕ → List ℤ → List ℕ
 lightToCodes n src = bytesOf true (map (codeOfLight n) src)
+
+-- A single sample: what it gives, or the refusal of rule 6.7 that one sample can have.
+pub data Single (A : Type 0) : Type 0 where
+  gives : A → Single A
+  refuses : ℕ → Single A
+
+abbrev pub lightSays : ℕ → ℕ → Single ℤ
+lightSays n code = cond (not (offersLight n)) (refuses 9) (cond (ltb (greatest n) code) (refuses 12) (gives (lightOfCode n code)))
+
+abbrev pub lightSaid : LightFound → Single ℤ
+lightSaid (Light light) = gives light
+lightSaid (light-found.Refused r) = refuses (numberOf r)
+
+abbrev pub codeSays : ℕ → ℤ → Single ℕ
+codeSays n light = cond (not (offersLight n)) (refuses 9) (gives (codeOfLight n light))
+
+abbrev pub codeSaid : CodeFound → Single ℕ
+codeSaid (Code code) = gives code
+codeSaid (code-found.Refused r) = refuses (numberOf r)

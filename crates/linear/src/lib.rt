@@ -27,7 +27,7 @@ ghost use Rattle.esrgb.specs.Depths.{bits};
 ghost use Rattle.transfer.specs.Light.{offersLight, scale, lightOfCode};
 ghost use Rattle.transfer.specs.Level.{levelOfLight, codeOfLight};
 ghost use Rattle.transfer.specs.HowTabled.{levels, LightTable, ThresholdTable};
-ghost use Rattle.linear.specs.Operations.{codesToLightSays, codesToLight, lightToCodesSays, lightToCodes};
+ghost use Rattle.linear.specs.Operations.{codesToLightSays, codesToLight, lightToCodesSays, lightToCodes, lightSays, lightSaid, codeSays, codeSaid};
 
 // Codes to light: each two-byte sample becomes a number. Refused are, in this order: a depth other than
 // 10 and 12, a source with a part of a pixel, a destination that does not have one number for each
@@ -206,4 +206,56 @@ fn passed(count: usize, threshold: u32, light: u32) -> usize
     ensures { λ r. ⌜ r ≡ cond (leb threshold light) count 0 ⌝ }
 {
     count * ((threshold <= light) as usize)
+}
+
+// ---- single samples
+
+// The light of a code, or why it has none.
+pub enum LightFound {
+    Light(i32),
+    Refused(Refusal),
+}
+
+pub fn light_of_code(depth: u32, code: u16) -> LightFound
+    ensures { λ r. ⌜ lightSaid r ≡ lightSays depth code ⌝ }
+{
+    match depth {
+        10 => light_at(Depth::Ten, code),
+        12 => light_at(Depth::Twelve, code),
+        _ => LightFound::Refused(Refusal::DepthNotOffered),
+    }
+}
+
+// The same at a depth that is offered.
+fn light_at(depth: Depth, code: u16) -> LightFound
+    requires { ⌜ offersLight (bits depth) ≡ true ⌝ }
+    ensures { λ r. ⌜ lightSaid r ≡ lightSays (bits depth) code ⌝ }
+{
+    if greatest_of(depth) < code {
+        return LightFound::Refused(Refusal::SampleTooGreat);
+    }
+    let lights = light_table();
+    LightFound::Light(light_of(&lights, 8 / step_of(depth) * code))
+}
+
+// The code of a light, or why it has none.
+pub enum CodeFound {
+    Code(u16),
+    Refused(Refusal),
+}
+
+pub fn code_of_light(depth: u32, light: i32) -> CodeFound
+    ensures { λ r. ⌜ codeSaid r ≡ codeSays depth light ⌝ }
+{
+    match depth {
+        10 => {
+            let thresholds = thresholds_at_ten();
+            CodeFound::Code(code_of(&thresholds, Depth::Ten, light))
+        }
+        12 => {
+            let thresholds = thresholds_at_twelve();
+            CodeFound::Code(code_of(&thresholds, Depth::Twelve, light))
+        }
+        _ => CodeFound::Refused(Refusal::DepthNotOffered),
+    }
 }

@@ -2,6 +2,7 @@
 // file, and prints what the library gives. `stdout` beside this has what the second implementation gives
 // for them: see rust/reference, whose program of the same name prints it.
 use libc::STDOUT_FILENO;
+use linear::CodeFound;
 use picture::Conversion;
 use spool::Found;
 use spool::Opened;
@@ -33,12 +34,12 @@ fn depth_row(from: u32, to: u32, low: u8, high: u8) {
     end_line();
 }
 
-// The code of a light.
+// The code of a light, 0 where its depth has none.
 fn code_of(depth: u32, light: i32) -> u64 {
-    let src = [light, light, light];
-    let mut dst = [0u8; 6];
-    linear::light_to_code(depth, &src, &mut dst);
-    numbers::from_two(dst[0], dst[1]) as u64
+    match linear::code_of_light(depth, light) {
+        CodeFound::Code(code) => code as u64,
+        CodeFound::Refused(_) => 0,
+    }
 }
 
 // A neutral patch: its light, and its codes at 10 and 12 bits.

@@ -1,27 +1,17 @@
--- Answers: what one leaves in the destination, and what an accepted one tells of the samples.
+-- The depths that have light, and what an accepted answer tells of the samples.
 -- Assumes nothing.
 use Prim.Native.Nat.{ℕ, zero, suc, _+_, _*_, _≤_}
-use mathlib.Core.Path.{_≡_, refl, sym, ap, _∙_}
+use mathlib.Core.Path.{_≡_, refl}
 use mathlib.Core.Bool.{Bool, true, false, cond}
 use mathlib.Core.List.{List, [], _∷_}
 use native.Mathlib.Omega.{arith}
 use borrow.Author.Tests.{ne-eqb, ltb-false}
 use lib.Dec.{ltb}
 use lib.ListN.{getD}
-use Rattle.refusal.specs.Answers.{faulty, sound, Said, accepted, refused, refusedAt, leaves}
+use Rattle.refusal.specs.Answers.{faulty, sound, Said, accepted, refusedAt}
 use Rattle.samples.specs.declared.Coding.the-variants.{Codes}
 use Rattle.samples.specs.Faults.{fault, decides, samplesSay}
 use Rattle.transfer.specs.Light.{offersLight}
-
--- ---- an answer, and what it leaves in the destination
-abbrev pub Answered : {A : Type 0} → Said → Said → List A → List A → List A → Type 0
-Answered said says after new before = (said ≡ says) × (after ≡ leaves says new before)
-
-pub answered : {A : Type 0} (said says : Said) (after new before : List A) → says ≡ said → after ≡ leaves said new before → Answered said says after new before
-answered said says after new before e h = (sym e, h ∙ ap (λ (s : Said). leaves s new before) (sym e))
-
-pub refuses : {A : Type 0} (number : ℕ) (says : Said) (new before : List A) → says ≡ refused number → Answered (refused number) says before new before
-refuses number says new before e = answered (refused number) says before new before e refl
 
 pub not-offered : (n : ℕ) → (n ≡ 10 → ⊥) → (n ≡ 12 → ⊥) → offersLight n ≡ false
 not-offered n ten twelve = rw (ne-eqb n 10 ten, ne-eqb n 12 twelve)

@@ -14,21 +14,19 @@ use Rattle.samples.specs.Faults.{Exact}
 use Rattle.samples.proofs.Reading.{length-two}
 use Rattle.samples.proofs.Buffers.{length-read}
 use Rattle.esrgb.specs.declared.Depth.{Depth}
-use Rattle.esrgb.specs.declared.DepthChange.{DepthChange}
-use Rattle.esrgb.specs.declared.DepthChange.the-variants.{Up, Down}
 use Rattle.esrgb.specs.declared.SampleRule.{SampleRule}
 use Rattle.esrgb.specs.Depths.{bits, greatest}
 use Rattle.esrgb.specs.Codes.{fromSrgb, toSrgb, changeDepth}
-use Rattle.esrgb.specs.HowApplied.{applied, ruleOf, Computes, lineOf, cutOf, changeOf}
+use Rattle.esrgb.specs.HowApplied.{applied, Computes, lineOf, cutOf, changeOf}
 use Rattle.esrgb.proofs.Scale.{scale, offered-bits}
 use Rattle.esrgb.proofs.Rules.{from-srgb-computes, to-srgb-computes, change-computes}
 use Rattle.picture.specs.declared.Conversion.{Conversion}
 use Rattle.picture.specs.declared.Conversion.the-variants.{FromSrgb, ToSrgb, ChangeDepth, ToLumaChroma, FromLumaChroma}
 use Rattle.picture.specs.declared.PixelRule.the-variants as rule
 use Rattle.picture.specs.declared.Work.{Work}
-use Rattle.picture.specs.declared.Work.the-variants.{Widen, Narrow, Pixels}
+use Rattle.picture.specs.declared.Work.the-variants.{Widen, Narrow, Change, Pixels}
 use Rattle.picture.specs.Convert.{each, converted}
-use Rattle.picture.specs.HowConverted.{readsWide, writesWide, made, changeBy, changing, Plans}
+use Rattle.picture.specs.HowConverted.{Plans}
 
 -- ---- lengths
 pub room-samples :
@@ -72,15 +70,6 @@ by-pixels :
     → bytesOf to (map f (samplesOf from src)) ≡ write to (map (each f) (read from src))
 by-pixels from to f src h = ap (bytesOf to) (sym (each-sample f (samplesOf from src) (whole-samples from src h)))
 
--- ---- the loop of a change of depth, by either rule
-change-loop : (change : DepthChange) → (readsWide (changeBy change) ≡ true) × (writesWide (changeBy change) ≡ true)
-change-loop (Up line) = (refl, refl)
-change-loop (Down shift) = (refl, refl)
-
-change-made : (change : DepthChange) (src : List ℕ) → made (changeBy change) src ≡ bytesOf true (map (applied (ruleOf change)) (samplesOf true src))
-change-made (Up line) src = refl
-change-made (Down shift) src = refl
-
 -- ---- the conversions, at depths that are offered
 module _ (d : Depth) where
   pub plan-from-srgb : Plans (FromSrgb (bits d)) Bytes (Widen (lineOf (bits d)))
@@ -103,20 +92,17 @@ module _ (d : Depth) where
     makes = λ src whole. same-samples false _ (toSrgb (bits d)) (samplesOf true src) (to-srgb-computes (bits d) (scale d)) ∙ by-pixels true false (toSrgb (bits d)) src whole;
   }
 
-  pub plan-change : (to : Depth) → Plans (ChangeDepth (bits d) (bits to)) (Codes (greatest (bits d)) false) (changing (bits d) (bits to))
+  pub plan-change : (to : Depth) → Plans (ChangeDepth (bits d) (bits to)) (Codes (greatest (bits d)) false) (Change (changeOf (bits d) (bits to)))
   unfolding converted
-  plan-change to =
-      let n = bits d in
-      let m = bits to in
-      let computes = change-computes n m (omega (arith, scale d .most, scale to .least)) in
-      record {
-        offered = rw (offered-bits d, offered-bits to);
-        coding-is = refl;
-        reads = sym (change-loop (changeOf n m) .0);
-        writes = sym (change-loop (changeOf n m) .1);
-        makes = λ src whole.
-            change-made (changeOf n m) src ∙ same-samples true _ (changeDepth n m) (samplesOf true src) computes ∙ by-pixels true true (changeDepth n m) src whole;
-      }
+  plan-change to = record {
+    offered = rw (offered-bits d, offered-bits to);
+    coding-is = refl;
+    reads = refl;
+    writes = refl;
+    makes = λ src whole.
+        let computes = change-computes (bits d) (bits to) (omega (arith, scale d .most, scale to .least)) in
+        same-samples true _ (changeDepth (bits d) (bits to)) (samplesOf true src) computes ∙ by-pixels true true (changeDepth (bits d) (bits to)) src whole;
+  }
 
   pub plan-to-luma-chroma : Plans (ToLumaChroma (bits d)) (Codes (greatest (bits d)) false) (Pixels (rule.ToLumaChroma d))
   unfolding converted

@@ -9,17 +9,15 @@ use Rattle.samples.specs.declared.Pixel.{Pixel}
 use Rattle.samples.specs.declared.Coding.{Coding}
 use Rattle.samples.specs.Samples.{pixelSize, samplesOf, bytesOf, read, write}
 use Rattle.samples.specs.Faults.{wideCoding}
-use Rattle.esrgb.specs.declared.DepthChange.{DepthChange}
-use Rattle.esrgb.specs.declared.DepthChange.the-variants.{Up, Down}
 use Rattle.esrgb.specs.Depths.{bits}
 use Rattle.esrgb.specs.declared.SampleRule.the-variants as sample
-use Rattle.esrgb.specs.HowApplied.{applied, changeOf}
+use Rattle.esrgb.specs.HowApplied.{applied, ruleOf}
 use Rattle.lumachroma.specs.LumaChroma.{toLumaChroma, toRgb}
 use Rattle.picture.specs.declared.Conversion.{Conversion}
 use Rattle.picture.specs.declared.PixelRule.{PixelRule}
 use Rattle.picture.specs.declared.PixelRule.the-variants as rule
 use Rattle.picture.specs.declared.Work.{Work}
-use Rattle.picture.specs.declared.Work.the-variants.{Widen, Narrow, Scale, Drop, Pixels}
+use Rattle.picture.specs.declared.Work.the-variants.{Widen, Narrow, Change, Pixels}
 use Rattle.picture.specs.declared.Plan.{Plan}
 use Rattle.picture.specs.declared.Plan.the-variants.{Run, NotOffered}
 use Rattle.picture.specs.Forms.{codingOf, wideForm, source, target, offers}
@@ -34,31 +32,20 @@ pixelApplied (rule.ToRgb d) = toRgb (bits d)
 abbrev pub readsWide : Work → Bool
 readsWide (Widen line) = false
 readsWide (Narrow cut) = true
-readsWide (Scale line) = true
-readsWide (Drop shift) = true
+readsWide (Change change) = true
 readsWide (Pixels rule) = true
 
 abbrev pub writesWide : Work → Bool
 writesWide (Widen line) = true
 writesWide (Narrow cut) = false
-writesWide (Scale line) = true
-writesWide (Drop shift) = true
+writesWide (Change change) = true
 writesWide (Pixels rule) = true
 
 abbrev pub made : Work → List ℕ → List ℕ
 made (Widen line) src = bytesOf true (map (applied (sample.Affine line)) (samplesOf false src))
 made (Narrow cut) src = bytesOf false (map (applied (sample.ToEight cut)) (samplesOf true src))
-made (Scale line) src = bytesOf true (map (applied (sample.Affine line)) (samplesOf true src))
-made (Drop shift) src = bytesOf true (map (applied (sample.Drop shift)) (samplesOf true src))
+made (Change change) src = bytesOf true (map (applied (ruleOf change)) (samplesOf true src))
 made (Pixels rule) src = write true (map (pixelApplied rule) (read true src))
-
--- The loop that changes the depth of each code.
-abbrev pub changeBy : DepthChange → Work
-changeBy (Up line) = Scale line
-changeBy (Down shift) = Drop shift
-
-abbrev pub changing : ℕ → ℕ → Work
-changing n m = changeBy (changeOf n m)
 
 -- A plan of a conversion: what its source may be, and a loop that does it.
 pub record Plans (c : Conversion) (coding : Coding) (work : Work) : Type 0 where

@@ -21,9 +21,9 @@ ghost use Rattle.refusal.specs.Answers.{said, leaves};
 ghost use Rattle.samples.specs.Samples.{place, samplesOf, sampleBytes, bytesOf, read, write};
 ghost use Rattle.samples.specs.Faults.{Exact, wideCoding, sourceSays};
 ghost use Rattle.esrgb.specs.Depths.{bits, greatest};
-ghost use Rattle.esrgb.specs.HowApplied.{applied};
+ghost use Rattle.esrgb.specs.HowApplied.{applied, ruleOf};
 ghost use Rattle.picture.specs.Convert.{convertSays, convertBytes};
-ghost use Rattle.picture.specs.HowConverted.{pixelApplied, readsWide, writesWide, made, changing, Planned};
+ghost use Rattle.picture.specs.HowConverted.{pixelApplied, readsWide, writesWide, made, Planned};
 
 // The conversions of rule 4.1. A depth may be any number; rule 1.1 says which are offered.
 pub enum Conversion {
@@ -62,6 +62,21 @@ fn fill_samples(rule: SampleRule, from: bool, to: bool, src: &[u8], dst: &mut [u
         let x = samples::sample(src, from, k);
         put(dst, to, k, esrgb::apply(rule, x));
         k += 1;
+    }
+}
+
+// A change of depth. Each rule has a call of its own, and so a loop of its own.
+fn fill_change(change: DepthChange, src: &[u8], dst: &mut [u8])
+    requires { ⌜ length (now dst) ≡ 2 * length (samplesOf true (now src)) ⌝ }
+    ensures { λ _. ⌜ now (dst .exit) ≡ bytesOf true (map (applied (ruleOf change)) (samplesOf true (now (src .entry)))) ⌝ }
+{
+    match change {
+        DepthChange::Up(line) => {
+            fill_samples(SampleRule::Affine(line), true, true, src, dst);
+        }
+        DepthChange::Down(shift) => {
+            fill_samples(SampleRule::Drop(shift), true, true, src, dst);
+        }
     }
 }
 
@@ -109,12 +124,11 @@ fn fill_pixels(rule: PixelRule, src: &[u8], dst: &mut [u8])
 
 // ---- the plan of a conversion
 
-// The loop to run, with its numbers. Each has a call of its own, and so a loop of its own.
+// The loop to run, with its numbers.
 pub enum Work {
     Widen(Line),
     Narrow(Cut),
-    Scale(Line),
-    Drop(u16),
+    Change(DepthChange),
     Pixels(PixelRule),
 }
 
@@ -125,8 +139,7 @@ fn writes_wide(work: Work) -> bool
     match work {
         Work::Widen(_) => true,
         Work::Narrow(_) => false,
-        Work::Scale(_) => true,
-        Work::Drop(_) => true,
+        Work::Change(_) => true,
         Work::Pixels(_) => true,
     }
 }
@@ -147,17 +160,6 @@ fn codes(depth: Depth, chroma: bool) -> Coding
     }
 }
 
-// From one depth to another.
-fn change(from: Depth, to: Depth) -> Work
-    ensures { λ r. ⌜ r ≡ changing (bits from) (bits to) ⌝ }
-{
-    let change = esrgb::change_of(from, to);
-    match change {
-        DepthChange::Up(line) => Work::Scale(line),
-        DepthChange::Down(shift) => Work::Drop(shift),
-    }
-}
-
 // The one list of conversions: for each, what its source may be and the loop that does it, if its depths
 // are offered.
 fn planned(conversion: Conversion) -> Plan
@@ -174,7 +176,10 @@ fn planned(conversion: Conversion) -> Plan
         },
         Conversion::ChangeDepth { from, to } => match esrgb::depth_of(from) {
             Offer::Offered(n) => match esrgb::depth_of(to) {
-                Offer::Offered(m) => Plan::Run(codes(n, false), change(n, m)),
+                Offer::Offered(m) => Plan::Run(
+                    codes(n, false),
+                    Work::Change(esrgb::change_of(n, m)),
+                ),
                 Offer::NotOffered => Plan::NotOffered,
             },
             Offer::NotOffered => Plan::NotOffered,
@@ -207,11 +212,8 @@ fn fill(work: Work, src: &[u8], dst: &mut [u8])
         Work::Narrow(cut) => {
             fill_samples(SampleRule::ToEight(cut), true, false, src, dst);
         }
-        Work::Scale(line) => {
-            fill_samples(SampleRule::Affine(line), true, true, src, dst);
-        }
-        Work::Drop(shift) => {
-            fill_samples(SampleRule::Drop(shift), true, true, src, dst);
+        Work::Change(change) => {
+            fill_change(change, src, dst);
         }
         Work::Pixels(rule) => {
             fill_pixels(rule, src, dst);

@@ -16,13 +16,14 @@ ghost use Rattle.samples.specs.HowJudged.{leastOf, allWithin, atFault, S
 
 // ---- sizes
 
-// The bytes of a sample, of a pixel, and how many whole samples some bytes hold.
+// The bytes of a pixel.
 pub fn pixel_size(wide: bool) -> usize
     ensures { λ r. ⌜ r ≡ pixelSize wide ⌝ }
 {
     if wide { 6 } else { 3 }
 }
 
+// How many whole samples some bytes hold.
 pub fn sample_count(wide: bool, bytes: usize) -> usize
     ensures { λ r. ⌜ r ≡ sampleCount wide bytes ⌝ }
 {

@@ -3,7 +3,8 @@
 use denote.Ref.{now}
 use Rattle.samples.specs.Faults.{sourceSays}
 use Rattle.linear.specs.Operations.{codesToLight}
-use Rattle.linear.proofs.Answering.{refuses, not-offered}
+use Rattle.refusal.proofs.Answering.{refuses}
+use Rattle.linear.proofs.Answering.{not-offered}
 use borrow.Author.Needs.{needs}
 use Rattle.linear.proofs.code_to_light.Statement.{statement}
 use Rattle.linear.proofs.code_to_light.Tie as tie

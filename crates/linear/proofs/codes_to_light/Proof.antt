@@ -8,8 +8,8 @@ use native.Mathlib.Omega.{arith}
 use denote.Ref.{now}
 use lib.ListN.{length, getD}
 use lib.IntN.{ℤ}
-use Rattle.refusal.specs.declared.Answer.{Answer}
-use Rattle.refusal.specs.Answers.{Said, said, accepted, leaves}
+use Rattle.refusal.specs.Answers.{Said, said, accepted}
+use Rattle.refusal.proofs.Answering.{answered-by}
 use Rattle.samples.specs.declared.Coding.the-variants.{Codes}
 use Rattle.samples.specs.Samples.{twoByTwo}
 use Rattle.samples.specs.Faults.{sourceSays}
@@ -17,7 +17,7 @@ use Rattle.samples.proofs.Order.{source-exact, source-samples}
 use Rattle.esrgb.specs.Depths.{bits}
 use Rattle.esrgb.proofs.Scale.{scale}
 use Rattle.linear.specs.Operations.{codesToLightSays, codesToLight}
-use Rattle.linear.proofs.Answering.{Answered, answered, accepted-within}
+use Rattle.linear.proofs.Answering.{accepted-within}
 use Rattle.transfer.proofs.Scaling.{Up, up, up-fits, up-lights}
 use borrow.Author.Needs.{needs}
 use Rattle.linear.proofs.codes_to_light.Statement.{statement}
@@ -32,15 +32,6 @@ new s = codesToLight (bits (s .args .depth)) (now (s .args .src))
 
 examined : (c : tie.After-examine) → says (c .before .before .before) ≡ said (c .examine .result)
 examined c = rw (c .before .before .before .pre, ← c .before .greatest-of .ensures) (sym (c .examine .ensures))
-
--- Then the destination is what that answer leaves.
-answers :
-    (c : tie.After-examine) (r : Answer) (after : List ℤ) → c .examine .result ≡ r
-    → let s = c .before .before .before in
-    after ≡ leaves (said r) (new s) (now (s .args .dst)) → Answered (said (c .examine .result)) (says s) after (new s) (now (s .args .dst))
-answers c r after e h =
-    let s = c .before .before .before in
-    answered _ _ after _ _ (examined c) (h ∙ sym (ap (λ (x : Answer). leaves (said x) (new s) (now (s .args .dst))) e))
 
 -- Accepted, the lengths fit, and no sample is above the greatest.
 accepts : (c : tie.After-enum-told) →
@@ -104,14 +95,14 @@ returns c =
     let told = c .before .before .before .before .before .before in
     let e = told .before .before in
     let a = e .before .before .before .args in
-    answers e _ _ (told .enum-told .given .1)
+    answered-by _ _ _ _ _ _ (examined e) (told .enum-told .given .1)
     (c .before .write-lights .ensures ∙ up-lights _ _ (scale (a .depth)) (upward (c .before .before .before)) (twoByTwo (now (a .src))))
 
 returns-2 : tie.Need-returns-2
-returns-2 c = answers (c .before .before) _ _ (c .enum-told2 .given .1) refl
+returns-2 c = answered-by _ _ _ _ (new (c .before .before .before .before .before)) _ (examined (c .before .before)) (c .enum-told2 .given .1) refl
 
 returns-3 : tie.Need-returns-3
-returns-3 c = answers (c .before .before) _ _ (c .enum-told3 .given .1) refl
+returns-3 c = answered-by _ _ _ _ (new (c .before .before .before .before .before)) _ (examined (c .before .before)) (c .enum-told3 .given .1) refl
 
 pub codes-to-light-spec : {M : Type 1} → statement M
 codes-to-light-spec =

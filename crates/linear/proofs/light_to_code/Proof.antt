@@ -2,7 +2,8 @@
 -- Assumes nothing.
 use denote.Ref.{now}
 use Rattle.linear.specs.Operations.{lightToCodes}
-use Rattle.linear.proofs.Answering.{refuses, not-offered}
+use Rattle.refusal.proofs.Answering.{refuses}
+use Rattle.linear.proofs.Answering.{not-offered}
 use borrow.Author.Needs.{needs}
 use Rattle.linear.proofs.light_to_code.Statement.{statement}
 use Rattle.linear.proofs.light_to_code.Tie as tie

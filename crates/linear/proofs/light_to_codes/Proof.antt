@@ -7,12 +7,11 @@ use Prim.Native.Nat.{ℕ}
 use native.Mathlib.Omega.{arith}
 use denote.Ref.{now}
 use lib.ListN.{length}
-use Rattle.refusal.specs.declared.Answer.{Answer}
-use Rattle.refusal.specs.Answers.{Said, said, leaves}
+use Rattle.refusal.specs.Answers.{Said, said}
+use Rattle.refusal.proofs.Answering.{answered-by}
 use Rattle.samples.proofs.Order.{accepted-exact}
 use Rattle.esrgb.specs.Depths.{bits}
 use Rattle.linear.specs.Operations.{lightToCodesSays, lightToCodes}
-use Rattle.linear.proofs.Answering.{Answered, answered}
 use borrow.Author.Needs.{needs}
 use Rattle.linear.proofs.light_to_codes.Statement.{statement}
 use Rattle.linear.proofs.light_to_codes.Tie as tie
@@ -26,14 +25,6 @@ new s = lightToCodes (bits (s .args .depth)) (now (s .args .src))
 
 counted : (c : tie.After-count-pixels) → says (c .before .before .before) ≡ said (c .count-pixels .result)
 counted c = rw (c .before .before .before .pre .0) (sym (c .count-pixels .ensures))
-
-answers :
-    (c : tie.After-count-pixels) (r : Answer) (after : List ℕ) → c .count-pixels .result ≡ r
-    → let s = c .before .before .before in
-    after ≡ leaves (said r) (new s) (now (s .args .dst)) → Answered (said (c .count-pixels .result)) (says s) after (new s) (now (s .args .dst))
-answers c r after e h =
-    let s = c .before .before .before in
-    answered _ _ after _ _ (counted c) (h ∙ sym (ap (λ (x : Answer). leaves (said x) (new s) (now (s .args .dst))) e))
 
 count-pixels-requires : tie.Need-count-pixels-requires
 count-pixels-requires c κs = search needs
@@ -59,13 +50,13 @@ same-length : tie.Need-same-length
 same-length c = search needs
 
 returns : tie.Need-returns
-returns c = answers (c .before .before .before .before .before .before) _ _ (c .before .before .before .before .enum-told .given .1) (c .before .before .write-codes .ensures)
+returns c = answered-by _ _ _ _ _ _ (counted (c .before .before .before .before .before .before)) (c .before .before .before .before .enum-told .given .1) (c .before .before .write-codes .ensures)
 
 returns-2 : tie.Need-returns-2
-returns-2 c = answers (c .before .before) _ _ (c .enum-told2 .given .1) refl
+returns-2 c = answered-by _ _ _ _ (new (c .before .before .before .before .before)) _ (counted (c .before .before)) (c .enum-told2 .given .1) refl
 
 returns-3 : tie.Need-returns-3
-returns-3 c = answers (c .before .before) _ _ (c .enum-told3 .given .1) refl
+returns-3 c = answered-by _ _ _ _ (new (c .before .before .before .before .before)) _ (counted (c .before .before)) (c .enum-told3 .given .1) refl
 
 pub light-to-codes-spec : {M : Type 1} → statement M
 light-to-codes-spec =

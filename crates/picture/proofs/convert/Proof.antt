@@ -1,8 +1,8 @@
 -- `picture::convert` meets its contract: a depth that is not offered, or a run of the plan.
 -- Assumes nothing.
-use mathlib.Core.Path.{sym, ap, subst, _∙_}
+use mathlib.Core.Path.{subst, _∙_}
 use denote.Ref.{now}
-use Rattle.refusal.specs.Answers.{leaves}
+use Rattle.refusal.proofs.Answering.{refuses}
 use Rattle.picture.specs.Convert.{converted}
 use Rattle.picture.specs.HowConverted.{Planned}
 use Rattle.picture.proofs.Answering.{not-offered, planned-says, planned-leaves}
@@ -39,8 +39,7 @@ returns-2 : tie.Need-returns-2
 returns-2 c =
     let a = c .before .before .before .before .before .args in
     let none = subst (Planned (a .conversion)) (c .enum-told .given .1) (c .before .before .planned .ensures) in
-    let says = sym (not-offered (a .conversion) (now (a .src)) (now (a .dst)) none) in
-    (says, ap (λ s. leaves s (converted (a .conversion) (now (a .src))) (now (a .dst))) says)
+    refuses 9 _ (converted (a .conversion) (now (a .src))) (now (a .dst)) (not-offered (a .conversion) (now (a .src)) (now (a .dst)) none)
 
 pub convert-spec : {M : Type 1} → statement M
 convert-spec =

@@ -38,26 +38,18 @@ fill-samples-requires-2 c κs =
 enum-known-work-3 : tie.Need-enum-known-work-3
 enum-known-work-3 c = search needs
 
-fill-samples-requires-3 : tie.Need-fill-samples-requires-3
-fill-samples-requires-3 c κs =
+fill-change-requires : tie.Need-fill-change-requires
+fill-change-requires c κs =
     let s = c .before .before .before .before .before .before in
     room-samples true true (now (s .args .src)) (now (s .args .dst)) (exact s _ (c .before .before .work3 .given .1))
 
 enum-known-work-4 : tie.Need-enum-known-work-4
 enum-known-work-4 c = search needs
 
-fill-samples-requires-4 : tie.Need-fill-samples-requires-4
-fill-samples-requires-4 c κs =
-    let s = c .before .before .before .before .before .before in
-    room-samples true true (now (s .args .src)) (now (s .args .dst)) (exact s _ (c .before .before .work4 .given .1))
-
-enum-known-work-5 : tie.Need-enum-known-work-5
-enum-known-work-5 c = search needs
-
 fill-pixels-requires : tie.Need-fill-pixels-requires
 fill-pixels-requires c κs =
     let s = c .before .before .before .before .before .before in
-    room-pixels (now (s .args .src)) (now (s .args .dst)) (exact s _ (c .before .before .work5 .given .1))
+    room-pixels (now (s .args .src)) (now (s .args .dst)) (exact s _ (c .before .before .work4 .given .1))
 
 same-length : tie.Need-same-length
 same-length c = search needs
@@ -75,19 +67,13 @@ same-length-3 : tie.Need-same-length-3
 same-length-3 c = search needs
 
 returns-3 : tie.Need-returns-3
-returns-3 c = c .before .before .fill-samples3 .ensures ∙ made-by (c .before .before .before .before .before .before .before .before .before) _ (c .before .before .before .before .before .work3 .given .1)
+returns-3 c = c .before .before .fill-change .ensures ∙ made-by (c .before .before .before .before .before .before .before .before .before) _ (c .before .before .before .before .before .work3 .given .1)
 
 same-length-4 : tie.Need-same-length-4
 same-length-4 c = search needs
 
 returns-4 : tie.Need-returns-4
-returns-4 c = c .before .before .fill-samples4 .ensures ∙ made-by (c .before .before .before .before .before .before .before .before .before) _ (c .before .before .before .before .before .work4 .given .1)
-
-same-length-5 : tie.Need-same-length-5
-same-length-5 c = search needs
-
-returns-5 : tie.Need-returns-5
-returns-5 c = c .before .before .fill-pixels .ensures ∙ made-by (c .before .before .before .before .before .before .before .before .before) _ (c .before .before .before .before .before .work5 .given .1)
+returns-4 c = c .before .before .fill-pixels .ensures ∙ made-by (c .before .before .before .before .before .before .before .before .before) _ (c .before .before .before .before .before .work4 .given .1)
 
 pub fill-spec : {M : Type 1} → statement M
 fill-spec =
@@ -98,10 +84,8 @@ fill-spec =
     enum-known-work-2
     fill-samples-requires-2
     enum-known-work-3
-    fill-samples-requires-3
+    fill-change-requires
     enum-known-work-4
-    fill-samples-requires-4
-    enum-known-work-5
     fill-pixels-requires
     same-length
     returns
@@ -110,6 +94,4 @@ fill-spec =
     same-length-3
     returns-3
     same-length-4
-    returns-4
-    same-length-5
-    returns-5)
+    returns-4)

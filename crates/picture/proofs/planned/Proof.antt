@@ -4,7 +4,7 @@ use mathlib.Core.Path.{_≡_, refl, ap, ap₂, subst, _∙_}
 use Rattle.numbers.proofs.Booleans.{and-false}
 use Rattle.esrgb.specs.Depths.{bits, offered, Names}
 use Rattle.picture.specs.declared.Conversion.the-variants.{FromSrgb, ToSrgb, ChangeDepth, ToLumaChroma, FromLumaChroma}
-use Rattle.picture.specs.declared.Work.the-variants.{Widen, Narrow}
+use Rattle.picture.specs.declared.Work.the-variants.{Widen, Narrow, Change}
 use Rattle.picture.specs.Forms.{offers}
 use Rattle.picture.proofs.Planning.{same-plan, plan-from-srgb, plan-to-srgb, plan-change, plan-to-luma-chroma, plan-from-luma-chroma}
 use borrow.Author.Needs.{needs}
@@ -62,8 +62,8 @@ enum-known-m c = search needs
 codes-requires-2 : tie.Need-codes-requires-2
 codes-requires-2 c κs = search needs
 
-change-requires : tie.Need-change-requires
-change-requires c κs = search needs
+change-of-requires : tie.Need-change-of-requires
+change-of-requires c κs = search needs
 
 enum-told-3 : tie.Need-enum-told-3
 enum-told-3 c = search needs
@@ -130,7 +130,7 @@ returns-5 c =
     let conversion = c .before .before .before .before .before .before .before .before .before .before .before .conversion3 .given in
     let from-named = subst (Names (conversion .0 .0)) (c .before .before .before .before .before .before .before .n3 .given .1) (c .before .before .before .before .before .before .before .before .before .depth-of3 .ensures) in
     let to-named = subst (Names (conversion .0 .1 .0)) (c .before .before .before .m .given .1) (c .before .before .before .before .before .depth-of4 .ensures) in
-    same-plan (conversion .1 ∙ ap₂ ChangeDepth from-named to-named) (c .before .codes2 .ensures) (c .change .ensures) (plan-change (c .before .before .before .before .before .before .before .n3 .given .0 .0) (c .before .before .before .m .given .0 .0))
+    same-plan (conversion .1 ∙ ap₂ ChangeDepth from-named to-named) (c .before .codes2 .ensures) (ap Change (c .change-of .ensures)) (plan-change (c .before .before .before .before .before .before .before .n3 .given .0 .0) (c .before .before .before .m .given .0 .0))
 
 returns-6 : tie.Need-returns-6
 returns-6 c =
@@ -189,7 +189,7 @@ planned-spec =
     depth-of-requires-4
     enum-known-m
     codes-requires-2
-    change-requires
+    change-of-requires
     enum-told-3
     enum-told-4
     enum-known-conversion-4

@@ -1,11 +1,11 @@
 -- `picture::run` meets its contract: what is judged to be sound is written, and anything else is left.
 -- Assumes nothing.
-use mathlib.Core.Path.{_≡_, sym, ap, subst, _∙_}
+use mathlib.Core.Path.{_≡_, refl, sym, ap, subst, _∙_}
 use mathlib.Core.Bool.{true}
 use lib.ListN.{length}
 use denote.Ref.{now}
-use Rattle.refusal.specs.declared.Answer.{Answer}
-use Rattle.refusal.specs.Answers.{said, leaves}
+use Rattle.refusal.specs.Answers.{said}
+use Rattle.refusal.proofs.Answering.{answered-by}
 use Rattle.samples.specs.Faults.{Exact, sourceSays}
 use Rattle.samples.proofs.Order.{source-exact}
 use Rattle.picture.specs.HowConverted.{writesWide, made}
@@ -13,20 +13,12 @@ use borrow.Author.Needs.{needs}
 use Rattle.picture.proofs.run.Statement.{statement}
 use Rattle.picture.proofs.run.Tie as tie
 
--- what is said, and what that leaves
+-- what is said
 says : (c : tie.After-examine) →
-    let a = c .before .before .before .before .args in said (c .examine .result) ≡ sourceSays true (a .coding) (writesWide (a .work)) (now (a .src)) (length (now (a .dst)))
+    let a = c .before .before .before .before .args in sourceSays true (a .coding) (writesWide (a .work)) (now (a .src)) (length (now (a .dst))) ≡ said (c .examine .result)
 says c =
     let a = c .before .before .before .before .args in
-    c .examine .ensures ∙ ap (λ to. sourceSays true (a .coding) to (now (a .src)) (length (now (a .dst)))) (c .before .writes-wide .ensures)
-
-leaves-by : (c : tie.After-examine) (answer : Answer) → c .examine .result ≡ answer →
-    let a = c .before .before .before .before .args in
-    leaves (said answer) (made (a .work) (now (a .src))) (now (a .dst))
-    ≡ leaves (sourceSays true (a .coding) (writesWide (a .work)) (now (a .src)) (length (now (a .dst)))) (made (a .work) (now (a .src))) (now (a .dst))
-leaves-by c answer e =
-    let a = c .before .before .before .before .args in
-    ap (λ s. leaves s (made (a .work) (now (a .src))) (now (a .dst))) (sym (ap said e) ∙ says c)
+    sym (c .examine .ensures ∙ ap (λ to. sourceSays true (a .coding) to (now (a .src)) (length (now (a .dst)))) (c .before .writes-wide .ensures))
 
 writes-wide-requires : tie.Need-writes-wide-requires
 writes-wide-requires c κs = search needs
@@ -43,7 +35,7 @@ fill-requires c κs =
     let s = examined .before .before .before .before in
     let a = s .args in
     subst (λ from. Exact from (writesWide (a .work)) (length (now (a .src))) (length (now (a .dst)))) (s .pre)
-    (source-exact true (a .coding) (writesWide (a .work)) (now (a .src)) (length (now (a .dst))) _ (sym (says examined) ∙ ap said (c .before .enum-told .given .1)))
+    (source-exact true (a .coding) (writesWide (a .work)) (now (a .src)) (length (now (a .dst))) _ (says examined ∙ ap said (c .before .enum-told .given .1)))
 
 enum-told-2 : tie.Need-enum-told-2
 enum-told-2 c = search needs
@@ -55,13 +47,15 @@ same-length : tie.Need-same-length
 same-length c = search needs
 
 returns : tie.Need-returns
-returns c = (says (c .before .before .before .before .before .before), c .before .before .fill .ensures ∙ leaves-by (c .before .before .before .before .before .before) _ (c .before .before .before .before .enum-told .given .1))
+returns c = answered-by _ _ _ _ _ _ (says (c .before .before .before .before .before .before)) (c .before .before .before .before .enum-told .given .1) (c .before .before .fill .ensures)
 
 returns-2 : tie.Need-returns-2
-returns-2 c = (says (c .before .before), leaves-by (c .before .before) _ (c .enum-told2 .given .1))
+returns-2 c =
+    let a = c .before .before .before .before .before .before .args in answered-by _ _ _ _ (made (a .work) (now (a .src))) _ (says (c .before .before)) (c .enum-told2 .given .1) refl
 
 returns-3 : tie.Need-returns-3
-returns-3 c = (says (c .before .before), leaves-by (c .before .before) _ (c .enum-told3 .given .1))
+returns-3 c =
+    let a = c .before .before .before .before .before .before .args in answered-by _ _ _ _ (made (a .work) (now (a .src))) _ (says (c .before .before)) (c .enum-told3 .given .1) refl
 
 pub run-spec : {M : Type 1} → statement M
 run-spec =

@@ -50,17 +50,17 @@ fn put(dst: &mut [u8], wide: bool, k: usize, x: u16)
     }
 }
 
-// One text for every conversion that works sample by sample: each call names its rule and whether the samples
-// are wide, from and to, so that the compiler makes a loop of its own for it.
-fn fill_samples(rule: SampleRule, from: bool, to: bool, src: &[u8], dst: &mut [u8])
-    requires { ⌜ length (now dst) ≡ place to (length (samplesOf from (now src))) ⌝ }
-    ensures { λ _. ⌜ now (dst .exit) ≡ bytesOf to (map (applied rule) (samplesOf from (now (src .entry)))) ⌝ }
+// One text for every conversion that works sample by sample: each call names its rule and whether the
+// samples are wide, in the source and in the destination, so that the compiler makes a loop of its own for it.
+fn fill_samples(rule: SampleRule, wide_in: bool, wide_out: bool, src: &[u8], dst: &mut [u8])
+    requires { ⌜ length (now dst) ≡ place «wide_out» (length (samplesOf «wide_in» (now src))) ⌝ }
+    ensures { λ _. ⌜ now (dst .exit) ≡ bytesOf «wide_out» (map (applied rule) (samplesOf «wide_in» (now (src .entry)))) ⌝ }
 {
-    let end = samples::sample_count(from, src.len());
+    let end = samples::sample_count(wide_in, src.len());
     let mut k = 0;
     while k < end {
-        let x = samples::sample(src, from, k);
-        put(dst, to, k, esrgb::apply(rule, x));
+        let x = samples::sample(src, wide_in, k);
+        put(dst, wide_out, k, esrgb::apply(rule, x));
         k += 1;
     }
 }

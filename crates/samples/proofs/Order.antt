@@ -20,80 +20,80 @@ some-size true = omega arith
 some-size false = omega arith
 
 -- The room for so many pixels, by what is left over and the quotient.
-pub exact-room : (to : Bool) (room pixels : ℕ) → room % pixelSize to ≡ 0 → room / pixelSize to ≡ pixels → room ≡ pixelSize to * pixels
+pub exact-room : (wideOut : Bool) (room pixels : ℕ) → room % pixelSize wideOut ≡ 0 → room / pixelSize wideOut ≡ pixels → room ≡ pixelSize wideOut * pixels
 exact-room true room pixels h q = omega arith
 exact-room false room pixels h q = omega arith
 
-pub none-left : (to : Bool) (room pixels : ℕ) → room ≡ pixelSize to * pixels → room % pixelSize to ≡ 0
+pub none-left : (wideOut : Bool) (room pixels : ℕ) → room ≡ pixelSize wideOut * pixels → room % pixelSize wideOut ≡ 0
 none-left true room pixels h = omega arith
 none-left false room pixels h = omega arith
 
-pub quotient-is : (to : Bool) (room pixels : ℕ) → room ≡ pixelSize to * pixels → room / pixelSize to ≡ pixels
+pub quotient-is : (wideOut : Bool) (room pixels : ℕ) → room ≡ pixelSize wideOut * pixels → room / pixelSize wideOut ≡ pixels
 quotient-is true room pixels h = omega arith
 quotient-is false room pixels h = omega arith
 
 -- What the tests lead to.
-module _ (from to : Bool) (len room : ℕ) (samples : Said) where
-  pub says-9 : (offered : Bool) → offered ≡ false → inOrder offered from to len room samples ≡ refused 9
+module _ (wideIn wideOut : Bool) (len room : ℕ) (samples : Said) where
+  pub says-9 : (offered : Bool) → offered ≡ false → inOrder offered wideIn wideOut len room samples ≡ refused 9
   says-9 offered h = rw h
 
-  pub says-10 : (len % pixelSize from ≡ 0 → ⊥) → inOrder true from to len room samples ≡ refused 10
+  pub says-10 : (len % pixelSize wideIn ≡ 0 → ⊥) → inOrder true wideIn wideOut len room samples ≡ refused 10
   says-10 h = rw (ne-eqb _ 0 h)
 
-  module _ (whole : len % pixelSize from ≡ 0) where
-    pub says-11 : (room ≡ pixelSize to * (len / pixelSize from) → ⊥) → inOrder true from to len room samples ≡ refused 11
+  module _ (whole : len % pixelSize wideIn ≡ 0) where
+    pub says-11 : (room ≡ pixelSize wideOut * (len / pixelSize wideIn) → ⊥) → inOrder true wideIn wideOut len room samples ≡ refused 11
     says-11 h = rw (whole, ne-eqb room _ h)
 
-    pub says-samples : room ≡ pixelSize to * (len / pixelSize from) → inOrder true from to len room samples ≡ samples
+    pub says-samples : room ≡ pixelSize wideOut * (len / pixelSize wideIn) → inOrder true wideIn wideOut len room samples ≡ samples
     says-samples h = rw (whole, eq-eqb room _ h)
 
 -- What an accepted source and its room are.
 accepted-by :
-    (from to : Bool) (len room : ℕ) (samples : Said) (n : ℕ) (o w e : Bool)
-    → eqb (len % pixelSize from) 0 ≡ w → eqb room (pixelSize to * (len / pixelSize from)) ≡ e
-    → inOrder o from to len room samples ≡ accepted n → (o ≡ true) × Exact from to len room × (samples ≡ accepted n)
-accepted-by from to len room samples n false w e f g h = let z : _≡_ {A = ℕ} 0 1 = cc in absurd (omega arith)
-accepted-by from to len room samples n true false e f g h = let z : _≡_ {A = ℕ} 0 1 = cc in absurd (omega arith)
-accepted-by from to len room samples n true true false f g h = let z : _≡_ {A = ℕ} 0 1 = cc in absurd (omega arith)
-accepted-by from to len room samples n true true true f g h =
+    (wideIn wideOut : Bool) (len room : ℕ) (samples : Said) (n : ℕ) (o w e : Bool)
+    → eqb (len % pixelSize wideIn) 0 ≡ w → eqb room (pixelSize wideOut * (len / pixelSize wideIn)) ≡ e
+    → inOrder o wideIn wideOut len room samples ≡ accepted n → (o ≡ true) × Exact wideIn wideOut len room × (samples ≡ accepted n)
+accepted-by wideIn wideOut len room samples n false w e f g h = let z : _≡_ {A = ℕ} 0 1 = cc in absurd (omega arith)
+accepted-by wideIn wideOut len room samples n true false e f g h = let z : _≡_ {A = ℕ} 0 1 = cc in absurd (omega arith)
+accepted-by wideIn wideOut len room samples n true true false f g h = let z : _≡_ {A = ℕ} 0 1 = cc in absurd (omega arith)
+accepted-by wideIn wideOut len room samples n true true true f g h =
     (refl, record { whole = eqb-true _ 0 f; room-is = eqb-true room _ g }, rw (f, g) at h)
 
 pub accepted-exact :
-    (offered from to : Bool) (len room : ℕ) (samples : Said) (n : ℕ) → inOrder offered from to len room samples ≡ accepted n
-    → (offered ≡ true) × Exact from to len room × (samples ≡ accepted n)
-accepted-exact offered from to len room samples n h = accepted-by from to len room samples n offered _ _ refl refl h
+    (offered wideIn wideOut : Bool) (len room : ℕ) (samples : Said) (n : ℕ) → inOrder offered wideIn wideOut len room samples ≡ accepted n
+    → (offered ≡ true) × Exact wideIn wideOut len room × (samples ≡ accepted n)
+accepted-exact offered wideIn wideOut len room samples n h = accepted-by wideIn wideOut len room samples n offered _ _ refl refl h
 
 -- A refusal of the lengths stands, whatever the samples say.
 refused-by :
-    (from to : Bool) (len room : ℕ) (p : ℕ) (samples s : Said) → ((n : ℕ) → s ≡ accepted n → ⊥) → (w e : Bool)
-    → eqb (len % pixelSize from) 0 ≡ w → eqb room (pixelSize to * (len / pixelSize from)) ≡ e
-    → inOrder true from to len room (accepted p) ≡ s → inOrder true from to len room samples ≡ s
-refused-by from to len room p samples s never false e f g h = rw f (rw f at h)
-refused-by from to len room p samples s never true false f g h = rw (f, g) (rw (f, g) at h)
-refused-by from to len room p samples s never true true f g h = absurd (never p (sym (rw (f, g) at h)))
+    (wideIn wideOut : Bool) (len room : ℕ) (p : ℕ) (samples s : Said) → ((n : ℕ) → s ≡ accepted n → ⊥) → (w e : Bool)
+    → eqb (len % pixelSize wideIn) 0 ≡ w → eqb room (pixelSize wideOut * (len / pixelSize wideIn)) ≡ e
+    → inOrder true wideIn wideOut len room (accepted p) ≡ s → inOrder true wideIn wideOut len room samples ≡ s
+refused-by wideIn wideOut len room p samples s never false e f g h = rw f (rw f at h)
+refused-by wideIn wideOut len room p samples s never true false f g h = rw (f, g) (rw (f, g) at h)
+refused-by wideIn wideOut len room p samples s never true true f g h = absurd (never p (sym (rw (f, g) at h)))
 
 -- ---- a source of bytes, and one of codes, whose lengths are looked at first
-module _ (to : Bool) (src : List ℕ) (room : ℕ) where
-  pub bytes-say : inOrder true false to (length src) room (accepted (length src / 3)) ≡ sourceSays true Bytes to src room
+module _ (wideOut : Bool) (src : List ℕ) (room : ℕ) where
+  pub bytes-say : inOrder true false wideOut (length src) room (accepted (length src / 3)) ≡ sourceSays true Bytes wideOut src room
   unfolding sourceSays
-  bytes-say = ap (inOrder true false to (length src) room) (sym (bytes-sound (accepted (length src / 3)) 0 src))
+  bytes-say = ap (inOrder true false wideOut (length src) room) (sym (bytes-sound (accepted (length src / 3)) 0 src))
 
   module _ (greatest : ℕ) (chroma : Bool) (s : Said) where
     pub codes-say :
-        (pixels : ℕ) → inOrder true true to (length src) room (accepted (length src / 6)) ≡ accepted pixels
-        → s ≡ samplesSay (Codes greatest chroma) (accepted pixels) 0 (twoByTwo src) → s ≡ sourceSays true (Codes greatest chroma) to src room
+        (pixels : ℕ) → inOrder true true wideOut (length src) room (accepted (length src / 6)) ≡ accepted pixels
+        → s ≡ samplesSay (Codes greatest chroma) (accepted pixels) 0 (twoByTwo src) → s ≡ sourceSays true (Codes greatest chroma) wideOut src room
     unfolding sourceSays
     codes-say pixels h e =
-        let exact = accepted-exact true true to (length src) room (accepted (length src / 6)) pixels h in
+        let exact = accepted-exact true true wideOut (length src) room (accepted (length src / 6)) pixels h in
         e
         ∙ ap (λ done. samplesSay (Codes greatest chroma) done 0 (twoByTwo src)) (sym (exact .2))
-        ∙ sym (says-samples true to (length src) room _ (exact .1 .whole) (exact .1 .room-is))
+        ∙ sym (says-samples true wideOut (length src) room _ (exact .1 .whole) (exact .1 .room-is))
 
     pub codes-refused :
-        ((n : ℕ) → s ≡ accepted n → ⊥) → s ≡ inOrder true true to (length src) room (accepted (length src / 6))
-        → s ≡ sourceSays true (Codes greatest chroma) to src room
+        ((n : ℕ) → s ≡ accepted n → ⊥) → s ≡ inOrder true true wideOut (length src) room (accepted (length src / 6))
+        → s ≡ sourceSays true (Codes greatest chroma) wideOut src room
     unfolding sourceSays
-    codes-refused never h = sym (refused-by true to (length src) room (length src / 6) _ s never _ _ refl refl (sym h))
+    codes-refused never h = sym (refused-by true wideOut (length src) room (length src / 6) _ s never _ _ refl refl (sym h))
 
 pub not-accepted : (number : ℕ) (n : ℕ) → refused number ≡ accepted n → ⊥
 not-accepted number n h = let z : _≡_ {A = ℕ} 0 1 = cc in omega arith
@@ -103,13 +103,13 @@ not-accepted-at number at n h = let z : _≡_ {A = ℕ} 0 1 = cc in omega arith
 
 -- What an accepted source is.
 pub source-exact :
-    (offered : Bool) (coding : Coding) (to : Bool) (src : List ℕ) (room n : ℕ) → sourceSays offered coding to src room ≡ accepted n
-    → Exact (wideCoding coding) to (length src) room
+    (offered : Bool) (coding : Coding) (wideOut : Bool) (src : List ℕ) (room n : ℕ) → sourceSays offered coding wideOut src room ≡ accepted n
+    → Exact (wideCoding coding) wideOut (length src) room
 unfolding sourceSays
-source-exact offered coding to src room n h = accepted-exact offered (wideCoding coding) to (length src) room _ n h .1
+source-exact offered coding wideOut src room n h = accepted-exact offered (wideCoding coding) wideOut (length src) room _ n h .1
 
 pub source-samples :
-    (offered : Bool) (coding : Coding) (to : Bool) (src : List ℕ) (room n : ℕ) → sourceSays offered coding to src room ≡ accepted n
+    (offered : Bool) (coding : Coding) (wideOut : Bool) (src : List ℕ) (room n : ℕ) → sourceSays offered coding wideOut src room ≡ accepted n
     → samplesSay coding (accepted (length src / pixelSize (wideCoding coding))) 0 (samplesOf (wideCoding coding) src) ≡ accepted n
 unfolding sourceSays
-source-samples offered coding to src room n h = accepted-exact offered (wideCoding coding) to (length src) room _ n h .2
+source-samples offered coding wideOut src room n h = accepted-exact offered (wideCoding coding) wideOut (length src) room _ n h .2

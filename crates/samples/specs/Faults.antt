@@ -34,22 +34,22 @@ samplesSay coding done k (x ∷ xs) =
     decides (fault coding k x) (place (wideCoding coding) k) (samplesSay coding done (k + 1) xs)
 
 -- Rule 4.2, the order of refusals of every operation on pictures: is the depth offered; is the source, of `len` bytes or numbers, whole
--- pixels; has the destination the `room` for them; and then what its samples say. Samples are one or two bytes wide, from and to;
--- light is counted in numbers, one to a sample (rule 6.7).
+-- pixels; has the destination the `room` for them; and then what its samples say. Samples are wide or
+-- not, in the source and in the result; light is counted in numbers, one to a sample (rule 6.7).
 abbrev pub inOrder : Bool → Bool → Bool → ℕ → ℕ → Said → Said
-inOrder offered from to len room samples =
+inOrder offered wideIn wideOut len room samples =
     cond (not offered) (refused 9)
-    (cond (not (eqb (len % pixelSize from) 0)) (refused 10)
-    (cond (not (eqb room (pixelSize to * (len / pixelSize from)))) (refused 11)
+    (cond (not (eqb (len % pixelSize wideIn) 0)) (refused 10)
+    (cond (not (eqb room (pixelSize wideOut * (len / pixelSize wideIn)))) (refused 11)
     samples))
 
 -- Lengths that neither 10 nor 11 refuses.
-pub record Exact (from to : Bool) (len room : ℕ) : Type 0 where
-  pub whole : len % pixelSize from ≡ 0
-  pub room-is : room ≡ pixelSize to * (len / pixelSize from)
+pub record Exact (wideIn wideOut : Bool) (len room : ℕ) : Type 0 where
+  pub whole : len % pixelSize wideIn ≡ 0
+  pub room-is : room ≡ pixelSize wideOut * (len / pixelSize wideIn)
 
 -- What is said of a source in bytes, whose samples are judged: the pixel count if nothing is at fault (rule 4.5).
 unfoldable pub sourceSays : Bool → Coding → Bool → List ℕ → ℕ → Said
-sourceSays offered coding to src room =
-    inOrder offered (wideCoding coding) to (length src) room
+sourceSays offered coding wideOut src room =
+    inOrder offered (wideCoding coding) wideOut (length src) room
     (samplesSay coding (accepted (length src / pixelSize (wideCoding coding))) 0 (samplesOf (wideCoding coding) src))

@@ -197,15 +197,15 @@ fn judge(chroma: bool, greatest: u16, src: &[u8], pixels: usize) -> Answer
 // ---- the order of refusals
 
 // The pixel count of a source of `len` bytes or numbers, if it is whole pixels and the room for its
-// result is what they need. Quotients are compared, since a product could overflow.
-pub fn count_pixels(from: bool, to: bool, len: usize, room: usize) -> Answer
-    ensures { λ r. ⌜ said r ≡ inOrder true from to len room (accepted (len / pixelSize from)) ⌝ }
+// result is what they need. Samples are wide or not, in the source and in the result. Quotients are compared, since a product could overflow.
+pub fn count_pixels(wide_in: bool, wide_out: bool, len: usize, room: usize) -> Answer
+    ensures { λ r. ⌜ said r ≡ inOrder true «wide_in» «wide_out» len room (accepted (len / pixelSize «wide_in»)) ⌝ }
 {
-    let size = pixel_size(from);
+    let size = pixel_size(wide_in);
     if len % size != 0 {
         return Answer::Refused(Refusal::NotWholePixels);
     }
-    let needed = pixel_size(to);
+    let needed = pixel_size(wide_out);
     if room % needed != 0 {
         return Answer::Refused(Refusal::WrongRoom);
     }
@@ -217,13 +217,13 @@ pub fn count_pixels(from: bool, to: bool, len: usize, room: usize) -> Answer
 
 // What is said of a source in bytes, for a result whose samples are wide or not, in so much room: all
 // refusals but that of a depth.
-pub fn examine(coding: Coding, to: bool, src: &[u8], room: usize) -> Answer
-    ensures { λ r. ⌜ said r ≡ sourceSays true coding to (now (src .entry)) room ⌝ }
+pub fn examine(coding: Coding, wide_out: bool, src: &[u8], room: usize) -> Answer
+    ensures { λ r. ⌜ said r ≡ sourceSays true coding «wide_out» (now (src .entry)) room ⌝ }
 {
     match coding {
-        Coding::Bytes => count_pixels(false, to, src.len(), room),
+        Coding::Bytes => count_pixels(false, wide_out, src.len(), room),
         Coding::Codes { greatest, chroma } => {
-            let counted = count_pixels(true, to, src.len(), room);
+            let counted = count_pixels(true, wide_out, src.len(), room);
             match counted {
                 Answer::Done(pixels) => judge(chroma, greatest, src, pixels),
                 Answer::Refused(_) => counted,

@@ -14,19 +14,19 @@ use Rattle.picture.proofs.fill_samples.Statement.{statement}
 use Rattle.picture.proofs.fill_samples.Tie as tie
 
 abbrev Inv-loop : tie.InvT-loop
-Inv-loop rule from to src dst₀ end k₀ dst k = (k ≤ end) × (length dst ≡ length dst₀) × Written (bytesBy to (applied rule)) (samplesOf from src) dst (place to k) k
+Inv-loop rule wideIn wideOut src dst₀ end k₀ dst k = (k ≤ end) × (length dst ≡ length dst₀) × Written (bytesBy wideOut (applied rule)) (samplesOf wideIn src) dst (place wideOut k) k
 
 abbrev μ-loop : tie.MeasureT-loop
-μ-loop rule from to src dst₀ end k₀ dst k = end - k
+μ-loop rule wideIn wideOut src dst₀ end k₀ dst k = end - k
 
 -- the end is the number of samples, and the destination has room for them all
 count-is : (c : tie.At-loop Inv-loop μ-loop) →
-    let a = c .before .before .before .before .args in c .before .sample-count .result ≡ length (samplesOf (a .from) (now (a .src)))
+    let a = c .before .before .before .before .args in c .before .sample-count .result ≡ length (samplesOf (a .wide-in) (now (a .src)))
 count-is c =
-    let a = c .before .before .before .before .args in c .before .sample-count .ensures ∙ sym (length-samples (a .from) (now (a .src)))
+    let a = c .before .before .before .before .args in c .before .sample-count .ensures ∙ sym (length-samples (a .wide-in) (now (a .src)))
 
 room : (c : tie.At-loop Inv-loop μ-loop) →
-    place (c .before .before .before .before .args .to) (c .before .sample-count .result) ≤ length (c .loop .dst)
+    place (c .before .before .before .before .args .wide-out) (c .before .sample-count .result) ≤ length (c .loop .dst)
 room c = rw (count-is c, c .loop .inv .1, c .before .before .before .before .pre) (le-refl _)
 
 sample-count-requires : tie.Need-sample-count-requires Inv-loop μ-loop
@@ -35,7 +35,7 @@ sample-count-requires c κs = search needs
 loop-holds : tie.Need-loop-holds Inv-loop μ-loop
 loop-holds c =
     let a = c .before .before .before .args in
-    (omega arith, refl, none-written (a .to) (applied (a .rule)) (samplesOf (a .from) (now (a .src))) (now (a .dst)))
+    (omega arith, refl, none-written (a .wide-out) (applied (a .rule)) (samplesOf (a .wide-in) (now (a .src))) (now (a .dst)))
 
 sample-requires : tie.Need-sample-requires Inv-loop μ-loop
 sample-requires c κs = search needs
@@ -46,7 +46,7 @@ apply-requires c κs = search needs
 put-requires : tie.Need-put-requires Inv-loop μ-loop
 put-requires c κs =
     let at = c .before .before .before .before in
-    place-within (at .before .before .before .before .args .to) (at .loop .k + 1) (at .before .sample-count .result) (length (at .loop .dst)) (omega arith) (room at)
+    place-within (at .before .before .before .before .args .wide-out) (at .loop .k + 1) (at .before .sample-count .result) (length (at .loop .dst)) (omega arith) (room at)
 
 add-k : tie.Need-add-k Inv-loop μ-loop
 add-k c = omega arith
@@ -61,7 +61,7 @@ loop-again c =
     let put = c .before .before in (
       omega arith,
       put .put .kept .0 ∙ at .loop .inv .1,
-      one-more (a .to) (applied (a .rule)) (samplesOf (a .from) (now (a .src))) (at .loop .dst) (put .put .last .0) (at .loop .k) _
+      one-more (a .wide-out) (applied (a .rule)) (samplesOf (a .wide-in) (now (a .src))) (at .loop .dst) (put .put .last .0) (at .loop .k) _
           (omega (arith, count-is at))
           (put .before .apply .ensures ∙ ap (applied (a .rule)) (put .before .before .before .sample .ensures))
           (put .put .ensures) (at .loop .inv .2),
@@ -74,8 +74,8 @@ returns : tie.Need-returns Inv-loop μ-loop
 returns c =
     let a = c .before .before .before .before .before .args in
     let at = c .before in
-    written-all (bytesBy (a .to) (applied (a .rule))) (samplesOf (a .from) (now (a .src))) (at .loop .dst) (place (a .to) (at .loop .k)) (at .loop .k)
-    refl (omega (arith, count-is at)) (rw (at .loop .inv .1, c .before .before .before .before .before .pre, ← count-is at) (place-within (a .to) (at .before .sample-count .result) (at .loop .k) _ (omega arith) (le-refl _))) (at .loop .inv .2)
+    written-all (bytesBy (a .wide-out) (applied (a .rule))) (samplesOf (a .wide-in) (now (a .src))) (at .loop .dst) (place (a .wide-out) (at .loop .k)) (at .loop .k)
+    refl (omega (arith, count-is at)) (rw (at .loop .inv .1, c .before .before .before .before .before .pre, ← count-is at) (place-within (a .wide-out) (at .before .sample-count .result) (at .loop .k) _ (omega arith) (le-refl _))) (at .loop .inv .2)
 
 pub fill-samples-spec : {M : Type 1} → statement M
 fill-samples-spec =

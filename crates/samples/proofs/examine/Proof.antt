@@ -37,32 +37,32 @@ returns : tie.Need-returns
 returns c =
     let a = c .before .before .before .before .args in
     c .count-pixels .ensures
-    ∙ bytes-say (a .to) (now (a .src)) (a .room)
-    ∙ sym (ap (λ coding. sourceSays _ coding (a .to) (now (a .src)) (a .room)) (c .before .enum-told .given .1))
+    ∙ bytes-say (a .wide-out) (now (a .src)) (a .room)
+    ∙ sym (ap (λ coding. sourceSays _ coding (a .wide-out) (now (a .src)) (a .room)) (c .before .enum-told .given .1))
 
 returns-2 : tie.Need-returns-2
 returns-2 c =
     let counted = c .before .before .before .before in
     let known = counted .before .before in
     let a = known .before .before .before .args in
-    codes-say (a .to) (now (a .src)) (a .room) _ _ _ _ (sym (counted .count-pixels2 .ensures) ∙ ap said (c .before .before .counted .given .1)) (c .judge .ensures)
-    ∙ sym (ap (λ coding. sourceSays _ coding (a .to) (now (a .src)) (a .room)) (known .coding .given .1))
+    codes-say (a .wide-out) (now (a .src)) (a .room) _ _ _ _ (sym (counted .count-pixels2 .ensures) ∙ ap said (c .before .before .counted .given .1)) (c .judge .ensures)
+    ∙ sym (ap (λ coding. sourceSays _ coding (a .wide-out) (now (a .src)) (a .room)) (known .coding .given .1))
 
 returns-3 : tie.Need-returns-3
 returns-3 c =
     let counted = c .before .before in
     let known = counted .before .before in
     let a = known .before .before .before .args in
-    codes-refused (a .to) (now (a .src)) (a .room) _ _ _ (λ n h. not-accepted _ n (sym (ap said (c .enum-told2 .given .1)) ∙ h)) (counted .count-pixels2 .ensures)
-    ∙ sym (ap (λ coding. sourceSays _ coding (a .to) (now (a .src)) (a .room)) (known .coding .given .1))
+    codes-refused (a .wide-out) (now (a .src)) (a .room) _ _ _ (λ n h. not-accepted _ n (sym (ap said (c .enum-told2 .given .1)) ∙ h)) (counted .count-pixels2 .ensures)
+    ∙ sym (ap (λ coding. sourceSays _ coding (a .wide-out) (now (a .src)) (a .room)) (known .coding .given .1))
 
 returns-4 : tie.Need-returns-4
 returns-4 c =
     let counted = c .before .before in
     let known = counted .before .before in
     let a = known .before .before .before .args in
-    codes-refused (a .to) (now (a .src)) (a .room) _ _ _ (λ n h. not-accepted-at _ _ n (sym (ap said (c .enum-told3 .given .1)) ∙ h)) (counted .count-pixels2 .ensures)
-    ∙ sym (ap (λ coding. sourceSays _ coding (a .to) (now (a .src)) (a .room)) (known .coding .given .1))
+    codes-refused (a .wide-out) (now (a .src)) (a .room) _ _ _ (λ n h. not-accepted-at _ _ n (sym (ap said (c .enum-told3 .given .1)) ∙ h)) (counted .count-pixels2 .ensures)
+    ∙ sym (ap (λ coding. sourceSays _ coding (a .wide-out) (now (a .src)) (a .room)) (known .coding .given .1))
 
 pub examine-spec : {M : Type 1} → statement M
 examine-spec =

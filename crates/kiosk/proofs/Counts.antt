@@ -23,7 +23,7 @@ use Rattle.linear.specs.Operations.{codesToLightSays, lightToCodesSays}
 use Rattle.records.specs.declared.FrameRecord.{FrameRecord}
 use Rattle.records.specs.Faults.{frameLimit, pixelBytes, recordFault}
 use Rattle.records.proofs.Sizes.{pixels-small}
-use Rattle.placement.specs.LayOut.{lengthLimit, totalLength, layoutSays, judged as judged-records}
+use Rattle.layout.specs.LayOut.{lengthLimit, totalLength, layoutSays, judged as judged-records}
 use Rattle.kiosk.specs.Interface.{Countable}
 
 -- A refusal is countable, whatever it is.

@@ -30,7 +30,7 @@ ghost use Rattle.linear.specs.Operations.{codesToLightSays, codesToLight, light
 ghost use Rattle.spool.specs.Open.{openSays};
 ghost use Rattle.spool.specs.Find.{findSaid, findSays};
 ghost use Rattle.frames.specs.Walk.{nextNumber};
-ghost use Rattle.placement.specs.LayOut.{layoutSays, layoutBytes};
+ghost use Rattle.layout.specs.LayOut.{layoutSays, layoutBytes};
 ghost use Rattle.listing.specs.Text.{written};
 ghost use Rattle.listing.specs.Listing.{listing};
 ghost use Rattle.kiosk.specs.Interface.{minus, answerOf, placeOf, Gives, Converts, ConvertsAt, Countable, openAnswer, openShop, openTable, findAnswer, findRecord};

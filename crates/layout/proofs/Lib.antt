@@ -1,3 +1,8 @@
+pub mod Written
+pub mod Begun
+pub mod Checking
+pub mod Writing
+pub mod Laid
 pub mod Relent
 pub mod Passes
 pub mod Read

@@ -8,7 +8,7 @@ use lib.ListN.{length, drop, getD, drop-of-length-le}
 use lib.Seq.{drop-cons}
 use Rattle.records.specs.declared.FrameRecord.{FrameRecord}
 use Rattle.spool.specs.Find.{noRecord}
-use Rattle.placement.specs.HowLaidOut.{State, visited, walked}
+use Rattle.layout.specs.HowLaidOut.{State, visited, walked}
 
 module _ (rs : List FrameRecord) (i : ℕ) (z : State) where
   pub one-more : i < length rs → walked (drop i rs) i z ≡ walked (drop (i + 1) rs) (i + 1) (visited z i (getD rs i noRecord))

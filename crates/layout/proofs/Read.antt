@@ -12,7 +12,7 @@ use Rattle.records.specs.declared.FrameRecord.{FrameRecord}
 use Rattle.records.specs.Fields.{numbersIn, bytesOf}
 use Rattle.records.specs.Layout.{recordWidths, recordNumbers, recordFrom, recordIn, recordBytes}
 use Rattle.spool.specs.Find.{noRecord}
-use Rattle.placement.specs.LayOut.{tableBytes}
+use Rattle.layout.specs.LayOut.{tableBytes}
 use Rattle.layout.specs.RoundTrip.{Fit, FitAll}
 
 low-length : (w v : ℕ) → length (lowBytes w v) ≡ w

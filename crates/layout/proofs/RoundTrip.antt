@@ -19,10 +19,10 @@ use Rattle.spool.specs.Open.{openFault}
 use Rattle.spool.specs.Find.{finds, noRecord, recordAt, pixelsOutside, findSays, pixelsStart, pixelsLength, FindSaid}
 use Rattle.spool.proofs.OpenFaults.{no-fault}
 use Rattle.spool.proofs.FindFaults.{by-record, found}
-use Rattle.placement.specs.LayOut.{lengthLimit, pixelsFrom, allPixels, totalLength, layoutSays, withOffset, placed, tableBytes, headerOf, layoutBytes}
+use Rattle.layout.specs.LayOut.{lengthLimit, pixelsFrom, allPixels, totalLength, layoutSays, withOffset, placed, tableBytes, headerOf, layoutBytes}
 use Rattle.layout.specs.RoundTrip.{FitAll, pixelPlace, Holds}
-use Rattle.placement.proofs.Checking.{Fine, none, one, Checked, faulty, fine, check}
-use Rattle.placement.proofs.Writing.{over-length, over-drop}
+use Rattle.layout.proofs.Checking.{Fine, none, one, Checked, faulty, fine, check}
+use Rattle.layout.proofs.Writing.{over-length, over-drop}
 use Rattle.layout.proofs.Read.{read-back, record-back}
 
 -- What holds where the layout is accepted.

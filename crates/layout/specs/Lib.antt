@@ -1,1 +1,3 @@
+pub mod LayOut
+pub mod HowLaidOut
 pub mod RoundTrip

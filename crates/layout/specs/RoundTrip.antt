@@ -9,7 +9,7 @@ use Rattle.records.specs.Layout.{recordWidths, headerSize, recordNumbers}
 use Rattle.records.specs.Faults.{pixelBytes}
 use Rattle.spool.specs.Open.{opens, openSays}
 use Rattle.spool.specs.Find.{finds, noRecord, findSays, pixelsOf}
-use Rattle.placement.specs.LayOut.{pixelsFrom, allPixels, withOffset}
+use Rattle.layout.specs.LayOut.{pixelsFrom, allPixels, withOffset}
 
 -- Numbers that have these widths, in bytes.
 abbrev pub Fit : List ℕ → List ℕ → Type 0

@@ -47,7 +47,7 @@ use Rattle.refusal.proofs.Answer as N
 use Rattle.refusal.proofs.Answer.Laws as N′
 use Rattle.records.specs.declared.FrameRecord.{FrameRecord}
 use Rattle.records.proofs.FrameRecord as T
-use Rattle.placement.specs.LayOut.{layoutSays, layoutBytes}
+use Rattle.layout.specs.LayOut.{layoutSays, layoutBytes}
 use Rattle.layout.proofs.lay_out as lay-out
 use Rattle.layout.proofs.lay_out.Symbol as lay-out-code
 use Rattle.layout.proofs.lay_out.Symbol.{name as #layout·lay-out}

@@ -49,24 +49,24 @@ use Rattle.refusal.proofs.Answer.Laws as N′
 use Rattle.records.specs.declared.FrameRecord.{FrameRecord}
 use Rattle.records.proofs.FrameRecord as T
 use Rattle.records.proofs.FrameRecord.Laws as T′
-use Rattle.placement.specs.declared.Progress.{Progress}
-use Rattle.placement.specs.HowLaidOut.{State, stateOf, walked, readied, laid}
+use Rattle.layout.specs.declared.Progress.{Progress}
+use Rattle.layout.specs.HowLaidOut.{State, stateOf, walked, readied, laid}
 use Rattle.layout.proofs.Relent.{Kept, lends-on, comes-home}
-use Rattle.placement.proofs.Laid.{LaidOut, start-state, is-laid}
-use Rattle.placement.proofs.Progress as P
-use Rattle.placement.proofs.Progress.Laws as P′
-use Rattle.placement.proofs.unchecked as unchecked
-use Rattle.placement.proofs.unchecked.Symbol as unchecked-code
-use Rattle.placement.proofs.unchecked.Symbol.{name as #placement·unchecked}
-use Rattle.placement.proofs.unchecked.Met as unchecked-met
+use Rattle.layout.proofs.Laid.{LaidOut, start-state, is-laid}
+use Rattle.layout.proofs.Progress as P
+use Rattle.layout.proofs.Progress.Laws as P′
+use Rattle.layout.proofs.unchecked as unchecked
+use Rattle.layout.proofs.unchecked.Symbol as unchecked-code
+use Rattle.layout.proofs.unchecked.Symbol.{name as #layout·unchecked}
+use Rattle.layout.proofs.unchecked.Met as unchecked-met
 use Rattle.layout.proofs.pass as pass
 use Rattle.layout.proofs.pass.Symbol as pass-code
 use Rattle.layout.proofs.pass.Symbol.{name as #layout·pass}
 use Rattle.layout.proofs.pass.Met as pass-met
-use Rattle.placement.proofs.ready as ready
-use Rattle.placement.proofs.ready.Symbol as ready-code
-use Rattle.placement.proofs.ready.Symbol.{name as #placement·ready}
-use Rattle.placement.proofs.ready.Met as ready-met
+use Rattle.layout.proofs.ready as ready
+use Rattle.layout.proofs.ready.Symbol as ready-code
+use Rattle.layout.proofs.ready.Symbol.{name as #layout·ready}
+use Rattle.layout.proofs.ready.Met as ready-met
 use Rattle.layout.proofs.lay_out.Key.{name as #layout·lay-out}
 use Rattle.layout.proofs.lay_out as lay-out
 use Rattle.layout.proofs.lay_out.Statement as stated
@@ -205,7 +205,7 @@ module _ {M : Type 1} (𝓤 : URA M) (H : Heap 𝓤) (A : Atoms 𝓤) (W : Given
   abbrev Started : Progress → Type 0
   Started p = (p .writing ≡ false) × (p .answer ≡ Done 0)
 
-  module _ (𝓣 : Tables 𝓤 H) (known-unchecked : Triple 𝓤 (𝓣 .C #placement·unchecked) (Unchecked 𝓤 H A at-mem run)) (known-pass : Triple 𝓤 (𝓣 .C #layout·pass) (Pass 𝓤 H A at-mem run)) (known-ready : Triple 𝓤 (𝓣 .C #placement·ready) (Ready 𝓤 H A at-mem run))
+  module _ (𝓣 : Tables 𝓤 H) (known-unchecked : Triple 𝓤 (𝓣 .C #layout·unchecked) (Unchecked 𝓤 H A at-mem run)) (known-pass : Triple 𝓤 (𝓣 .C #layout·pass) (Pass 𝓤 H A at-mem run)) (known-ready : Triple 𝓤 (𝓣 .C #layout·ready) (Ready 𝓤 H A at-mem run))
       (l₀ l₁ l₂ l₃ l₄ l₅ l₆ l₇ l₈ l₉ l₁₀ l₁₁ l₁₂ l₁₃ l₁₄ : ℕ) where
     abbrev C : Calls 𝓤 H
     C = 𝓣 .C
@@ -338,7 +338,7 @@ module _ {M : Type 1} (𝓤 : URA M) (H : Heap 𝓤) (A : Atoms 𝓤) (W : Given
         keep ! (2 ∷ 3 ∷ 4 ∷ 5 ∷ 0 ∷ 7 ∷ 8 ∷ 9 ∷ 10 ∷ 11 ∷ 12 ∷ 13 ∷ 14 ∷ 15 ∷ 16 ∷ 17 ∷ 18 ∷ 19 ∷ 20 ∷ 21 ∷ 22 ∷ 23 ∷ 24 ∷ 25 ∷ 26 ∷ 27 ∷ 28 ∷ 29 ∷ 30 ∷ 31 ∷ 32 ∷ 33 ∷ 34 ∷ 35 ∷ 36 ∷ []) $
         checks ds p refl (as-said p u is-p) (ap (λ (z : State). walked rs 0 (readied n shop (walked rs 0 z))) (start-state ds started)))))))
 
-  walk : (𝓣 : Tables 𝓤 H) → Triple 𝓤 (𝓣 .C #placement·unchecked) (Unchecked 𝓤 H A at-mem run) → Triple 𝓤 (𝓣 .C #layout·pass) (Pass 𝓤 H A at-mem run) → Triple 𝓤 (𝓣 .C #placement·ready) (Ready 𝓤 H A at-mem run) → Is (ShrSlice (named 0) κ R) x (vx ∷ [])
+  walk : (𝓣 : Tables 𝓤 H) → Triple 𝓤 (𝓣 .C #layout·unchecked) (Unchecked 𝓤 H A at-mem run) → Triple 𝓤 (𝓣 .C #layout·pass) (Pass 𝓤 H A at-mem run) → Triple 𝓤 (𝓣 .C #layout·ready) (Ready 𝓤 H A at-mem run) → Is (ShrSlice (named 0) κ R) x (vx ∷ [])
       → ent 𝓤 (onEntry 𝓤 H A lay-out.signature (κ, (κ′, tt)) (q, (q′, tt)) a at) (WpFn 𝓤 H (𝓣 .C) (𝓣 .Λ) code.function (vx ∷ vint w16 shop ∷ vd ∷ []) Post)
   walk 𝓣 known-unchecked known-pass known-ready is-x =
       qed W ((‵ (flft κ q) ⊛ ‵ (flft κ′ q′) ⊛ ‵ ftrue) ∷ ‵ (owns (ShrSlice (named 0) κ R ∷ u16 ∷ MutSlice (named 1) κ′ u8 ∷ []) a at) ∷ []) ∵ enter ! (𝓣 .C) (𝓣 .Λ) code.function (vx ∷ vint w16 shop ∷ vd ∷ []) _ $
@@ -347,7 +347,7 @@ module _ {M : Type 1} (𝓤 : URA M) (H : Heap 𝓤) (A : Atoms 𝓤) (W : Given
       begins 𝓣 known-unchecked known-pass known-ready l₀ l₁ l₂ l₃ l₄ l₅ l₆ l₇ l₈ l₉ l₁₀ l₁₁ l₁₂ l₁₃ l₁₄)))))))))))))))
 
 lay-out-meets : {M : Type 1} (𝓤 : URA M) (H : Heap 𝓤) (A : Atoms 𝓤) → Given 𝓤 H A → (mem : Memory → SProp 𝓤) (run : Routine → Fun 𝓤) (𝓣 : Tables 𝓤 H)
-    → Triple 𝓤 (𝓣 .C #placement·unchecked) (Unchecked 𝓤 H A mem run) → Triple 𝓤 (𝓣 .C #layout·pass) (Pass 𝓤 H A mem run) → Triple 𝓤 (𝓣 .C #placement·ready) (Ready 𝓤 H A mem run)
+    → Triple 𝓤 (𝓣 .C #layout·unchecked) (Unchecked 𝓤 H A mem run) → Triple 𝓤 (𝓣 .C #layout·pass) (Pass 𝓤 H A mem run) → Triple 𝓤 (𝓣 .C #layout·ready) (Ready 𝓤 H A mem run)
     → Meets 𝓤 H A lay-out.signature (WpFn 𝓤 H (𝓣 .C) (𝓣 .Λ) code.function) (lay-out.spec 𝓤 H A mem run)
 lay-out-meets 𝓤 H A W mem run 𝓣 known-unchecked known-pass known-ready =
     walk-meets 𝓤 H A lay-out.ended stayed W (goes-none-slice 𝓤 H A W 2 (0 ∷ []) tt (plain (λ _. R)) yes, (goes-none 𝓤 H A W 2 (λ _. u16) yes (λ κs x f. refl), (goes-gave-slice 𝓤 H A W 2 1 tt (plain (λ _. u8)), tt))) (lay-out.clauses 𝓤 H A mem run)
@@ -362,6 +362,6 @@ lay-out-spec 𝓤 H 𝓜 𝓖 𝓡 =
     entered 𝓤 H (tripleOf 𝓤 H (𝓖 .A) lay-out.signature (lay-out.spec 𝓤 H (𝓖 .A) (𝓜 .mem) (𝓡 .run)))
     (tables 𝓤 H 𝓜 𝓡 code.env .C) (tables 𝓤 H 𝓜 𝓡 code.env .Λ) #layout·lay-out code.function (code.unfolded 𝓤 H 𝓜 𝓡)
     (lay-out-meets 𝓤 H (𝓖 .A) (givenOf 𝓤 H 𝓜 𝓖) (𝓜 .mem) (𝓡 .run) (tablesOf 𝓤 H 𝓜 (tables 𝓤 H 𝓜 𝓡 code.env))
-    (cited 𝓤 H (Unchecked 𝓤 H (𝓖 .A) (𝓜 .mem) (𝓡 .run)) 𝓜 𝓡 code.env #placement·unchecked unchecked-code.routine code.calls-placement·unchecked (unchecked-met.met 𝓤 H 𝓜 𝓖 𝓡))
+    (cited 𝓤 H (Unchecked 𝓤 H (𝓖 .A) (𝓜 .mem) (𝓡 .run)) 𝓜 𝓡 code.env #layout·unchecked unchecked-code.routine code.calls-layout·unchecked (unchecked-met.met 𝓤 H 𝓜 𝓖 𝓡))
     (cited 𝓤 H (Pass 𝓤 H (𝓖 .A) (𝓜 .mem) (𝓡 .run)) 𝓜 𝓡 code.env #layout·pass pass-code.routine code.calls-layout·pass (pass-met.met 𝓤 H 𝓜 𝓖 𝓡))
-    (cited 𝓤 H (Ready 𝓤 H (𝓖 .A) (𝓜 .mem) (𝓡 .run)) 𝓜 𝓡 code.env #placement·ready ready-code.routine code.calls-placement·ready (ready-met.met 𝓤 H 𝓜 𝓖 𝓡)))
+    (cited 𝓤 H (Ready 𝓤 H (𝓖 .A) (𝓜 .mem) (𝓡 .run)) 𝓜 𝓡 code.env #layout·ready ready-code.routine code.calls-layout·ready (ready-met.met 𝓤 H 𝓜 𝓖 𝓡)))

@@ -53,18 +53,18 @@ use denote.Exit.{yes}
 use denote.Triple.Clauses.{ensured, lasts}
 use Rattle.records.specs.declared.FrameRecord.{FrameRecord}
 use Rattle.spool.specs.Find.{noRecord}
-use Rattle.placement.specs.declared.Progress.{Progress}
-use Rattle.placement.specs.HowLaidOut.{State, stateOf, visited, walked}
+use Rattle.layout.specs.declared.Progress.{Progress}
+use Rattle.layout.specs.HowLaidOut.{State, stateOf, visited, walked}
 use Rattle.records.proofs.FrameRecord as T
 use Rattle.records.proofs.FrameRecord.Laws as T′
 use Rattle.layout.proofs.Relent.{Kept, lends-on, comes-home}
 use Rattle.layout.proofs.Passes.{one-more, none-left}
-use Rattle.placement.proofs.Progress as P
-use Rattle.placement.proofs.Progress.Laws as P′
-use Rattle.placement.proofs.visit as visit
-use Rattle.placement.proofs.visit.Symbol as visit-code
-use Rattle.placement.proofs.visit.Symbol.{name as #placement·visit}
-use Rattle.placement.proofs.visit.Met as visit-met
+use Rattle.layout.proofs.Progress as P
+use Rattle.layout.proofs.Progress.Laws as P′
+use Rattle.layout.proofs.visit as visit
+use Rattle.layout.proofs.visit.Symbol as visit-code
+use Rattle.layout.proofs.visit.Symbol.{name as #layout·visit}
+use Rattle.layout.proofs.visit.Met as visit-met
 use Rattle.layout.proofs.pass.Key.{name as #layout·pass}
 use Rattle.layout.proofs.pass as pass
 use Rattle.layout.proofs.pass.Statement as stated
@@ -161,7 +161,7 @@ module _ {M : Type 1} (𝓤 : URA M) (H : Heap 𝓤) (A : Atoms 𝓤) (W : Given
       nothing ! $ owned ! P.the-row (Is P.the-row) (LL.makes P.the-type P′.the-plain 𝓤 H A) p₀ _ is₀ $ fjoin ! $ move ! (1 ∷ 0 ∷ []) $ fjoin ! $ move ! (1 ∷ 0 ∷ []) $ fjoin ! $ frame ! $
       owned ! P.the-row (Is P.the-row) (LL.makes P.the-type P′.the-plain 𝓤 H A) p _ is $ done !
 
-  module _ (𝓣 : Tables 𝓤 H) (known : Triple 𝓤 (𝓣 .C #placement·visit) (Visit 𝓤 H A at-mem run)) (l₀ l₁ l₂ l₃ l₄ l₅ l₆ l₇ l₈ l₉ l₁₀ l₁₁ l₁₂ : ℕ) where
+  module _ (𝓣 : Tables 𝓤 H) (known : Triple 𝓤 (𝓣 .C #layout·visit) (Visit 𝓤 H A at-mem run)) (l₀ l₁ l₂ l₃ l₄ l₅ l₆ l₇ l₈ l₉ l₁₀ l₁₁ l₁₂ : ℕ) where
     abbrev C : Calls 𝓤 H
     C = 𝓣 .C
 
@@ -331,7 +331,7 @@ module _ {M : Type 1} (𝓤 : URA M) (H : Heap 𝓤) (A : Atoms 𝓤) (W : Given
         keep ! (2 ∷ 3 ∷ 5 ∷ 0 ∷ 7 ∷ 8 ∷ 9 ∷ 10 ∷ 11 ∷ 12 ∷ 13 ∷ 14 ∷ 15 ∷ 16 ∷ 17 ∷ 18 ∷ 19 ∷ 20 ∷ 21 ∷ 22 ∷ 23 ∷ 24 ∷ 25 ∷ 26 ∷ 27 ∷ 28 ∷ 29 ∷ 30 ∷ 31 ∷ 32 ∷ 4 ∷ []) $
         first ! $ looped
 
-  walk : (𝓣 : Tables 𝓤 H) → Triple 𝓤 (𝓣 .C #placement·visit) (Visit 𝓤 H A at-mem run) → Is (ShrSlice (named 0) κ R) x (vx ∷ []) → ent 𝓤 (onEntry 𝓤 H A pass.signature (κ, (κ′, tt)) (q, (q′, tt)) a at) (WpFn 𝓤 H (𝓣 .C) (𝓣 .Λ) code.function (vx ∷ vd ∷ valP p₀ ∷ []) Post)
+  walk : (𝓣 : Tables 𝓤 H) → Triple 𝓤 (𝓣 .C #layout·visit) (Visit 𝓤 H A at-mem run) → Is (ShrSlice (named 0) κ R) x (vx ∷ []) → ent 𝓤 (onEntry 𝓤 H A pass.signature (κ, (κ′, tt)) (q, (q′, tt)) a at) (WpFn 𝓤 H (𝓣 .C) (𝓣 .Λ) code.function (vx ∷ vd ∷ valP p₀ ∷ []) Post)
   walk 𝓣 known is-x =
       let typed = LL.lawful P.the-type P′.the-laws 𝓤 H A W .typed p₀ _ is₀ .0 in
       qed W ((‵ (flft κ q) ⊛ ‵ (flft κ′ q′) ⊛ ‵ ftrue) ∷ ‵ (owns (ShrSlice (named 0) κ R ∷ MutSlice (named 1) κ′ u8 ∷ P.the-row ∷ []) a at) ∷ []) ∵ enter ! (𝓣 .C) (𝓣 .Λ) code.function (vx ∷ vd ∷ valP p₀ ∷ []) _ $
@@ -341,7 +341,7 @@ module _ {M : Type 1} (𝓤 : URA M) (H : Heap 𝓤) (A : Atoms 𝓤) (W : Given
       assigns ! (of-opd ! (lit ! tt)) (from ! (stop !)) (init ! 14 refl (tt, record { fits = lit< tt })) $
       enters 𝓣 known l₀ l₁ l₂ l₃ l₄ l₅ l₆ l₇ l₈ l₉ l₁₀ l₁₁ l₁₂)))))))))))))
 
-pass-meets : {M : Type 1} (𝓤 : URA M) (H : Heap 𝓤) (A : Atoms 𝓤) → Given 𝓤 H A → (mem : Memory → SProp 𝓤) (run : Routine → Fun 𝓤) (𝓣 : Tables 𝓤 H) → Triple 𝓤 (𝓣 .C #placement·visit) (Visit 𝓤 H A mem run)
+pass-meets : {M : Type 1} (𝓤 : URA M) (H : Heap 𝓤) (A : Atoms 𝓤) → Given 𝓤 H A → (mem : Memory → SProp 𝓤) (run : Routine → Fun 𝓤) (𝓣 : Tables 𝓤 H) → Triple 𝓤 (𝓣 .C #layout·visit) (Visit 𝓤 H A mem run)
     → Meets 𝓤 H A pass.signature (WpFn 𝓤 H (𝓣 .C) (𝓣 .Λ) code.function) (pass.spec 𝓤 H A mem run)
 pass-meets 𝓤 H A W mem run 𝓣 known =
     walk-meets 𝓤 H A pass.ended stayed W (goes-none-slice 𝓤 H A W 2 (0 ∷ []) tt (plain (λ _. R)) yes, (goes-slice 𝓤 H A W 2 1 tt (plain (λ _. u8)), (goes-none 𝓤 H A W 2 (λ _. P.the-row) yes (λ κs x f. refl), tt))) (pass.clauses 𝓤 H A mem run)
@@ -357,4 +357,4 @@ pass-spec 𝓤 H 𝓜 𝓖 𝓡 =
     entered 𝓤 H (tripleOf 𝓤 H (𝓖 .A) pass.signature (pass.spec 𝓤 H (𝓖 .A) (𝓜 .mem) (𝓡 .run)))
     (tables 𝓤 H 𝓜 𝓡 code.env .C) (tables 𝓤 H 𝓜 𝓡 code.env .Λ) #layout·pass code.function (code.unfolded 𝓤 H 𝓜 𝓡)
     (pass-meets 𝓤 H (𝓖 .A) (givenOf 𝓤 H 𝓜 𝓖) (𝓜 .mem) (𝓡 .run) (tablesOf 𝓤 H 𝓜 (tables 𝓤 H 𝓜 𝓡 code.env))
-    (cited 𝓤 H (Visit 𝓤 H (𝓖 .A) (𝓜 .mem) (𝓡 .run)) 𝓜 𝓡 code.env #placement·visit visit-code.routine code.calls-placement·visit (visit-met.met 𝓤 H 𝓜 𝓖 𝓡)))
+    (cited 𝓤 H (Visit 𝓤 H (𝓖 .A) (𝓜 .mem) (𝓡 .run)) 𝓜 𝓡 code.env #layout·visit visit-code.routine code.calls-layout·visit (visit-met.met 𝓤 H 𝓜 𝓖 𝓡)))

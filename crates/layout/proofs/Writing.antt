@@ -13,10 +13,10 @@ use Rattle.refusal.specs.Answers.{accepted}
 use Rattle.records.specs.declared.FrameRecord.{FrameRecord}
 use Rattle.records.specs.Layout.{recordBytes}
 use Rattle.records.specs.Faults.{pixelBytes, recordFault}
-use Rattle.placement.specs.LayOut.{allPixels, withOffset, placed, tableBytes}
-use Rattle.placement.specs.HowLaidOut.{recordPlace, visited, walked}
-use Rattle.placement.proofs.Written.{in-place}
-use Rattle.placement.proofs.Checking.{Fine, none, one}
+use Rattle.layout.specs.LayOut.{allPixels, withOffset, placed, tableBytes}
+use Rattle.layout.specs.HowLaidOut.{recordPlace, visited, walked}
+use Rattle.layout.proofs.Written.{in-place}
+use Rattle.layout.proofs.Checking.{Fine, none, one}
 
 -- Bytes written over a list from `at` to `end`: how long the list is, and what stands before and behind their end.
 abbrev pub over : List ℕ → List ℕ → ℕ → ℕ → List ℕ

@@ -15,9 +15,9 @@ use Rattle.records.specs.declared.FrameRecord.{FrameRecord}
 use Rattle.records.specs.Layout.{recordBytes}
 use Rattle.records.specs.Faults.{pixelBytes, recordFault}
 use Rattle.refusal.proofs.Numbers.{numbered}
-use Rattle.placement.specs.declared.Progress.{Progress}
-use Rattle.placement.specs.LayOut.{withOffset}
-use Rattle.placement.specs.HowLaidOut.{stateOf, grown, recordPlace, written, visited}
+use Rattle.layout.specs.declared.Progress.{Progress}
+use Rattle.layout.specs.LayOut.{withOffset}
+use Rattle.layout.specs.HowLaidOut.{stateOf, grown, recordPlace, written, visited}
 
 -- Bytes copied to the start of a list.
 pub copied : (d : List ℕ) {bytes b d′ : List ℕ} → bytes ≡ b → d′ ≡ take (length bytes) bytes ++ drop (length bytes) d → d′ ≡ b ++ drop (length b) d

@@ -1,11 +1,11 @@
--- `placement::ready` meets its contract.
+-- `layout::ready` meets its contract.
 -- Assumes nothing.
 use mathlib.Core.Path.{ap, _∙_}
 use borrow.Author.Needs.{needs}
 use Rattle.refusal.specs.Answers.{said}
-use Rattle.placement.proofs.Begun.{stop-state, ready-too-many, ready-begins}
-use Rattle.placement.proofs.ready.Statement.{statement}
-use Rattle.placement.proofs.ready.Tie as tie
+use Rattle.layout.proofs.Begun.{stop-state, ready-too-many, ready-begins}
+use Rattle.layout.proofs.ready.Statement.{statement}
+use Rattle.layout.proofs.ready.Tie as tie
 
 stop-requires : tie.Need-stop-requires
 stop-requires c κs = search needs

@@ -1,4 +1,4 @@
--- `placement::write_record` meets its contract.
+-- `layout::write_record` meets its contract.
 -- Assumes nothing.
 use Prim.Native.Nat.{_+_, _-_, _*_}
 use lib.ListN.{length, take, drop}
@@ -6,11 +6,11 @@ use native.Mathlib.Omega.{arith}
 use mathlib.Core.Path.{sym, _∙_}
 use borrow.Author.Tests.{not-true, not-false}
 use Rattle.records.specs.Layout.{recordBytes}
-use Rattle.placement.specs.LayOut.{withOffset}
-use Rattle.placement.proofs.Written.{copied, put-there, not-writing, past-limit, past-length, no-room, in-place}
+use Rattle.layout.specs.LayOut.{withOffset}
+use Rattle.layout.proofs.Written.{copied, put-there, not-writing, past-limit, past-length, no-room, in-place}
 use borrow.Author.Needs.{needs}
-use Rattle.placement.proofs.write_record.Statement.{statement}
-use Rattle.placement.proofs.write_record.Tie as tie
+use Rattle.layout.proofs.write_record.Statement.{statement}
+use Rattle.layout.proofs.write_record.Tie as tie
 
 returns : tie.Need-returns
 returns c = rw (not-true (c .before .before .args .writing) (c .if1 .taken)) (not-writing (c .before .before .args .place) (c .before .before .args .end) (c .before .before .args .frame) (c .before .before .args .dst .now))

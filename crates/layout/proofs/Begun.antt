@@ -10,9 +10,9 @@ use Rattle.refusal.specs.declared.Answer.{Answer}
 use Rattle.refusal.specs.declared.Answer.the-variants.{Done}
 use Rattle.refusal.specs.Answers.{Said, accepted, refused, said}
 use Rattle.records.specs.Layout.{headerBytes}
-use Rattle.placement.specs.declared.Progress.{Progress}
-use Rattle.placement.specs.LayOut.{pixelsFrom, headerOf}
-use Rattle.placement.specs.HowLaidOut.{stateOf, stopped, begun, readied}
+use Rattle.layout.specs.declared.Progress.{Progress}
+use Rattle.layout.specs.LayOut.{pixelsFrom, headerOf}
+use Rattle.layout.specs.HowLaidOut.{stateOf, stopped, begun, readied}
 
 pub stop-state : (d : List ℕ) {p : Progress} {a : Answer} → (p .writing ≡ false) × (p .answer ≡ a) → stateOf p d ≡ stopped (said a) d
 stop-state d h = rw (h .0, h .1)

@@ -1,9 +1,9 @@
--- `placement::grow` meets its contract.
+-- `layout::grow` meets its contract.
 -- Assumes nothing.
 use borrow.Author.Tests.{lt-ltb, le-ltb}
 use borrow.Author.Needs.{needs}
-use Rattle.placement.proofs.grow.Statement.{statement}
-use Rattle.placement.proofs.grow.Tie as tie
+use Rattle.layout.proofs.grow.Statement.{statement}
+use Rattle.layout.proofs.grow.Tie as tie
 
 returns : tie.Need-returns
 returns c = simp (lt-ltb _ _ (c .if1 .taken))

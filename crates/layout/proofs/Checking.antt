@@ -11,8 +11,8 @@ use borrow.Author.Tests.{lt-ltb, le-ltb, ltb-true, eqb-true}
 use Rattle.refusal.specs.Answers.{Said, accepted, refused, refusedAt}
 use Rattle.records.specs.declared.FrameRecord.{FrameRecord}
 use Rattle.records.specs.Faults.{pixelBytes, recordFault}
-use Rattle.placement.specs.LayOut.{lengthLimit, allPixels, judged}
-use Rattle.placement.specs.HowLaidOut.{grown, written, walked}
+use Rattle.layout.specs.LayOut.{lengthLimit, allPixels, judged}
+use Rattle.layout.specs.HowLaidOut.{grown, written, walked}
 
 -- A pass that has refused goes on as it is.
 pub stays-refused : (rs : List FrameRecord) (i : ℕ) (w : Bool) (n : ℕ) (d : List ℕ) → walked rs i (record { writing = w; says = refused n; bytes = d }) ≡ record { writing = w; says = refused n; bytes = d }

@@ -10,8 +10,8 @@ use Rattle.refusal.specs.Answers.{Said, accepted, refused, refusedAt, said}
 use Rattle.records.specs.declared.FrameRecord.{FrameRecord}
 use Rattle.records.specs.Layout.{headerSize, recordSize, headerBytes, recordBytes}
 use Rattle.records.specs.Faults.{frameLimit, pixelBytes, recordFault}
-use Rattle.placement.specs.declared.Progress.{Progress}
-use Rattle.placement.specs.LayOut.{lengthLimit, pixelsFrom, headerOf, withOffset}
+use Rattle.layout.specs.declared.Progress.{Progress}
+use Rattle.layout.specs.LayOut.{lengthLimit, pixelsFrom, headerOf, withOffset}
 
 -- What a pass has: whether it writes, what it says so far, accepted with the offset behind the pixels placed so far, and
 -- the destination.

@@ -1,13 +1,13 @@
--- `placement::visit` meets its contract.
+-- `layout::visit` meets its contract.
 -- Assumes nothing.
 use mathlib.Core.Path.{sym, ap, _∙_}
 use borrow.Author.Needs.{needs}
 use Rattle.records.specs.Faults.{checked}
 use Rattle.records.proofs.Sizes.{pixels-small}
-use Rattle.placement.specs.HowLaidOut.{grown}
-use Rattle.placement.proofs.Written.{visit-faulty, visit-sound, visit-refused, visit-refused-at}
-use Rattle.placement.proofs.visit.Statement.{statement}
-use Rattle.placement.proofs.visit.Tie as tie
+use Rattle.layout.specs.HowLaidOut.{grown}
+use Rattle.layout.proofs.Written.{visit-faulty, visit-sound, visit-refused, visit-refused-at}
+use Rattle.layout.proofs.visit.Statement.{statement}
+use Rattle.layout.proofs.visit.Tie as tie
 
 enum-known-answer : tie.Need-enum-known-answer
 enum-known-answer c = search needs

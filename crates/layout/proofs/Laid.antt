@@ -14,11 +14,11 @@ use Rattle.refusal.specs.declared.Answer.the-variants.{Done}
 use Rattle.refusal.specs.Answers.{Said, accepted, refused, refusedAt, said, leaves}
 use Rattle.records.specs.declared.FrameRecord.{FrameRecord}
 use Rattle.records.specs.Layout.{headerBytes}
-use Rattle.placement.specs.declared.Progress.{Progress}
-use Rattle.placement.specs.LayOut.{lengthLimit, pixelsFrom, allPixels, totalLength, judged, layoutSays, placed, tableBytes, headerOf, layoutBytes}
-use Rattle.placement.specs.HowLaidOut.{State, stateOf, recordPlace, walked, stopped, readied, laid}
-use Rattle.placement.proofs.Checking.{stays-refused, stays-refused-at, Fine, summed, Checked, faulty, fine, check, sum-fits, sum-past}
-use Rattle.placement.proofs.Writing.{over-length, over-take, over-drop, write-all}
+use Rattle.layout.specs.declared.Progress.{Progress}
+use Rattle.layout.specs.LayOut.{lengthLimit, pixelsFrom, allPixels, totalLength, judged, layoutSays, placed, tableBytes, headerOf, layoutBytes}
+use Rattle.layout.specs.HowLaidOut.{State, stateOf, recordPlace, walked, stopped, readied, laid}
+use Rattle.layout.proofs.Checking.{stays-refused, stays-refused-at, Fine, summed, Checked, faulty, fine, check, sum-fits, sum-past}
+use Rattle.layout.proofs.Writing.{over-length, over-take, over-drop, write-all}
 
 -- What the contract of `lay_out` says.
 abbrev pub LaidOut : List FrameRecord → ℕ → List ℕ → Answer → List ℕ → Type 0

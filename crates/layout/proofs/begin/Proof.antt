@@ -1,12 +1,12 @@
--- `placement::begin` meets its contract.
+-- `layout::begin` meets its contract.
 -- Assumes nothing.
 use native.Mathlib.Omega.{arith}
 use mathlib.Core.Path.{_∙_}
-use Rattle.placement.proofs.Written.{copied}
-use Rattle.placement.proofs.Begun.{stop-state, begin-too-long, begin-wrong-room, begin-writes}
+use Rattle.layout.proofs.Written.{copied}
+use Rattle.layout.proofs.Begun.{stop-state, begin-too-long, begin-wrong-room, begin-writes}
 use borrow.Author.Needs.{needs}
-use Rattle.placement.proofs.begin.Statement.{statement}
-use Rattle.placement.proofs.begin.Tie as tie
+use Rattle.layout.proofs.begin.Statement.{statement}
+use Rattle.layout.proofs.begin.Tie as tie
 
 stop-requires : tie.Need-stop-requires
 stop-requires c κs = search needs

@@ -1,2 +1,0 @@
-pub mod LayOut
-pub mod HowLaidOut

@@ -10,14 +10,14 @@ use Rattle.records.specs.declared.FrameRecord.{FrameRecord}
 use Rattle.records.specs.Layout.{headerIn}
 use Rattle.records.specs.Faults.{isPair, badSide, recordFault}
 use Rattle.spool.specs.Open.{openFault}
-use Rattle.spool.specs.Find.{finds, refused, noRecord, recordAt, pixelsOutside, findFault}
+use Rattle.spool.specs.Find.{finds, refusesFrame, noRecord, recordAt, pixelsOutside, findFault}
 use Rattle.frames.specs.Walk.{moved, nextNumber}
 
 -- Whatever is wrong with a record or its pixels, its number is above 5.
 by-tests : (pair bad outside : Bool) (r : FrameRecord) (k : ℕ)
     → (let wrong : ℕ = cond pair (cond bad 7 0) 6 in
     let fault : ℕ = cond (eqb wrong 0) (cond outside 8 0) wrong in
-    moved (cond (eqb fault 0) (finds r) (refused fault noRecord)) k ≡ k + 1)
+    moved (cond (eqb fault 0) (finds r) (refusesFrame fault noRecord)) k ≡ k + 1)
 by-tests true true outside r k = refl
 by-tests true false true r k = refl
 by-tests true false false r k = refl

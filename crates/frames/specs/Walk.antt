@@ -8,12 +8,12 @@ use lib.Dec.{leb}
 use denote.Ref.{RefT, now}
 use Rattle.frames.specs.declared.Frames.{Frames}
 use Rattle.frames.specs.declared.Stepped.{Stepped}
-use Rattle.spool.specs.Find.{FindSaid, finds, refused, findSaid, findSays, IsPixels}
+use Rattle.spool.specs.Find.{FindSaid, finds, refusesFrame, findSaid, findSays, IsPixels}
 
 -- The number after a step, by what Find answers: it stays after 1 to 5 and else grows by one.
 abbrev pub moved : FindSaid → ℕ → ℕ
 moved (finds r) k = k + 1
-moved (refused n r) k = cond (leb n 5) k (k + 1)
+moved (refusesFrame n r) k = cond (leb n 5) k (k + 1)
 
 abbrev pub nextNumber : List ℕ → ℕ → ℕ
 nextNumber file k = moved (findSays file k) k

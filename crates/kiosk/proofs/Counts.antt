@@ -23,7 +23,7 @@ use Rattle.linear.specs.Operations.{codesToLightSays, lightToCodesSays}
 use Rattle.records.specs.declared.FrameRecord.{FrameRecord}
 use Rattle.records.specs.Faults.{frameLimit, pixelBytes, recordFault}
 use Rattle.records.proofs.Sizes.{pixels-small}
-use Rattle.layout.specs.LayOut.{lengthLimit, totalLength, layoutSays, judged as judged-records}
+use Rattle.layout.specs.LayOut.{lengthLimit, totalLength, layoutSays, recordsSay}
 use Rattle.kiosk.specs.Interface.{Countable}
 
 -- A refusal is countable, whatever it is.
@@ -78,10 +78,10 @@ picked true s k at h = h
 picked false s k at h = tt
 
 module _ (done : Said) (h : Countable done) where
-  records-say : (at : ℕ) (rs : List FrameRecord) → Countable (judged-records done at rs)
-  unfolding judged-records
+  records-say : (at : ℕ) (rs : List FrameRecord) → Countable (recordsSay done at rs)
+  unfolding recordsSay
   records-say at [] = h
-  records-say at (r ∷ rs) = picked (eqb (recordFault r) 0) (judged-records done (at + 1) rs) (recordFault r) at (records-say (at + 1) rs)
+  records-say at (r ∷ rs) = picked (eqb (recordFault r) 0) (recordsSay done (at + 1) rs) (recordFault r) at (records-say (at + 1) rs)
 
 totals : (a b : Bool) (total : ℕ) → ltb lengthLimit total ≡ a → Countable (cond a (refused 14) (cond b (accepted total) (refused 11)))
 totals true b total e = tt
@@ -93,5 +93,5 @@ unfolding layoutSays
 layout-counts rs room =
     let total = totalLength rs in
     let verdict = cond (ltb lengthLimit total) (refused 14) (cond (eqb room total) (accepted total) (refused 11)) in
-    or-refused (ltb frameLimit (length rs)) 3 (judged-records verdict 0 rs)
+    or-refused (ltb frameLimit (length rs)) 3 (recordsSay verdict 0 rs)
     (records-say verdict (totals (ltb lengthLimit total) (eqb room total) total refl) 0 rs)

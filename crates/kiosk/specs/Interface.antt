@@ -1,4 +1,4 @@
--- What C gets of what an operation says: a count or minus the refusal's number, the place, and a record as the 16 bytes that it
+-- What C gets of what an operation says: a count or minus the refusal's number, the place, and a record as the bytes that it
 -- has in a spool file.
 -- Assumes nothing.
 use Prim.Native.Nat.{ℕ, _^_, _<_}
@@ -11,8 +11,8 @@ use Rattle.records.specs.Layout.{recordBytes}
 use Rattle.records.specs.Faults.{pixelBytes}
 use Rattle.picture.specs.declared.Conversion.{Conversion}
 use Rattle.picture.specs.Convert.{convertSays, converted}
-use Rattle.spool.specs.Open.{OpenSaid, opens, refused as open-refused}
-use Rattle.spool.specs.Find.{FindSaid, finds, refused as find-refused}
+use Rattle.spool.specs.Open.{OpenSaid, opens, refusesFile}
+use Rattle.spool.specs.Find.{FindSaid, finds, refusesFrame}
 
 abbrev pub minus : ℕ → ℤ
 minus number = negℤ (pos number)
@@ -52,22 +52,22 @@ Countable (refusedAt k at) = Unit
 -- Rule 7.5: the frame count is returned, shop and offset of the table are written. Refused, both keep what they held.
 abbrev pub openAnswer : OpenSaid → ℤ
 openAnswer (opens count shop table) = pos count
-openAnswer (open-refused k) = minus k
+openAnswer (refusesFile k) = minus k
 
 abbrev pub openShop : OpenSaid → ℕ → ℕ
 openShop (opens count shop table) before = shop
-openShop (open-refused k) before = before
+openShop (refusesFile k) before = before
 
 abbrev pub openTable : OpenSaid → ℕ → ℕ
 openTable (opens count shop table) before = table
-openTable (open-refused k) before = before
+openTable (refusesFile k) before = before
 
 -- Rule 7.6: the length of the frame's pixels is returned, which start at the record's offset, and the record is written. Refused, it is
 -- the record of zeros.
 abbrev pub findAnswer : FindSaid → ℤ
 findAnswer (finds r) = pos (pixelBytes r)
-findAnswer (find-refused k r) = minus k
+findAnswer (refusesFrame k r) = minus k
 
 abbrev pub findRecord : FindSaid → List ℕ
 findRecord (finds r) = recordBytes r
-findRecord (find-refused k r) = recordBytes r
+findRecord (refusesFrame k r) = recordBytes r

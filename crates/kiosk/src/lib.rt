@@ -10,6 +10,7 @@ use listing::write_listing;
 use picture::Conversion;
 use picture::convert;
 use records::FrameRecord;
+use records::RECORD_SIZE;
 use records::pixel_bytes;
 use records::record_bytes;
 use refusal::Answer;
@@ -31,7 +32,7 @@ ghost use Rattle.spool.specs.Open.{openSays};
 ghost use Rattle.spool.specs.Find.{findSaid, findSays};
 ghost use Rattle.frames.specs.Walk.{nextNumber};
 ghost use Rattle.layout.specs.LayOut.{layoutSays, layoutBytes};
-ghost use Rattle.listing.specs.Text.{written};
+ghost use Rattle.listing.specs.Text.{putText};
 ghost use Rattle.listing.specs.Listing.{listing};
 ghost use Rattle.kiosk.specs.Interface.{minus, answerOf, placeOf, Gives, Converts, ConvertsAt, Countable, openAnswer, openShop, openTable, findAnswer, findRecord};
 
@@ -250,7 +251,7 @@ pub extern "C" fn kiosk_open(file: &[u8], shop: &mut u16, table: &mut u32) -> i6
 }
 
 // What is found, as C gets it: the length of the frame's pixels, and the record.
-fn found_as(found: Found, frame: &mut [u8; 16]) -> i64
+fn found_as(found: Found, frame: &mut [u8; RECORD_SIZE]) -> i64
     ensures value { λ r. ⌜ r ≡ findAnswer (findSaid found) ⌝ }
     ensures frame { λ _. ⌜ now (frame .exit) ≡ findRecord (findSaid found) ⌝ }
 {
@@ -277,7 +278,7 @@ fn found_as(found: Found, frame: &mut [u8; 16]) -> i64
 
 // Finds a frame: the length of its pixels, which start at the record's offset.
 #[no_mangle]
-pub extern "C" fn kiosk_find(file: &[u8], number: usize, frame: &mut [u8; 16]) -> i64
+pub extern "C" fn kiosk_find(file: &[u8], number: usize, frame: &mut [u8; RECORD_SIZE]) -> i64
     ensures value { λ r. ⌜ r ≡ findAnswer (findSays (now (file .entry)) number) ⌝ }
     ensures frame { λ _. ⌜ now (frame .exit) ≡ findRecord (findSays (now (file .entry)) number) ⌝ }
 {
@@ -287,7 +288,7 @@ pub extern "C" fn kiosk_find(file: &[u8], number: usize, frame: &mut [u8; 16]) -
 
 // One step of the walk over a spool's frames: finds frame `next`, and moves `next` on.
 #[no_mangle]
-pub extern "C" fn kiosk_step(file: &[u8], next: &mut usize, frame: &mut [u8; 16]) -> i64
+pub extern "C" fn kiosk_step(file: &[u8], next: &mut usize, frame: &mut [u8; RECORD_SIZE]) -> i64
     ensures value { λ r. ⌜ r ≡ findAnswer (findSays (now (file .entry)) (now (next .entry))) ⌝ }
     ensures frame { λ _. ⌜ now (frame .exit) ≡ findRecord (findSays (now (file .entry)) (now (next .entry))) ⌝ }
     ensures next { λ _. ⌜ now (next .exit) ≡ nextNumber (now (file .entry)) (now (next .entry)) ⌝ }
@@ -317,7 +318,7 @@ pub extern "C" fn kiosk_lay_out(
 pub extern "C" fn kiosk_listing(file: &[u8], text: &mut [u8; LISTING_ROOM]) -> usize
     ensures whole { λ r. ⌜ take r (now (text .exit)) ≡ listing (now (file .entry)) ⌝ }
     ensures within { λ r. ⌜ r ≤ length (now (text .exit)) ⌝ }
-    ensures buffer { λ r. ⌜ record { bytes = now (text .exit); at = r } ≡ written (record { bytes = now (text .entry); at = 0 }) (listing (now (file .entry))) ⌝ }
+    ensures buffer { λ r. ⌜ record { bytes = now (text .exit); at = r } ≡ putText (record { bytes = now (text .entry); at = 0 }) (listing (now (file .entry))) ⌝ }
 {
     write_listing(file, text)
 }

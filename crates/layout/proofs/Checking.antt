@@ -11,8 +11,8 @@ use borrow.Author.Tests.{lt-ltb, le-ltb, ltb-true, eqb-true}
 use Rattle.refusal.specs.Answers.{Said, accepted, refused, refusedAt}
 use Rattle.records.specs.declared.FrameRecord.{FrameRecord}
 use Rattle.records.specs.Faults.{pixelBytes, recordFault}
-use Rattle.layout.specs.LayOut.{lengthLimit, allPixels, judged}
-use Rattle.layout.specs.HowLaidOut.{grown, written, walked}
+use Rattle.layout.specs.LayOut.{lengthLimit, allPixels, recordsSay}
+use Rattle.layout.specs.HowLaidOut.{grown, recordWritten, walked}
 
 -- A pass that has refused goes on as it is.
 pub stays-refused : (rs : List FrameRecord) (i : ℕ) (w : Bool) (n : ℕ) (d : List ℕ) → walked rs i (record { writing = w; says = refused n; bytes = d }) ≡ record { writing = w; says = refused n; bytes = d }
@@ -37,42 +37,42 @@ summed s (r ∷ rs) = summed (grown s (pixelBytes r)) rs
 
 -- A pass from place i that has come to the sum s: either a record is at fault, or none is.
 pub data Checked (rs : List FrameRecord) (i s : ℕ) (d : List ℕ) : Type 0 where
-  faulty : (n at : ℕ) → ((x : Said) → judged x i rs ≡ refusedAt n at)
+  faulty : (n at : ℕ) → ((x : Said) → recordsSay x i rs ≡ refusedAt n at)
       → walked rs i (record { writing = false; says = accepted s; bytes = d }) ≡ record { writing = false; says = refusedAt n at; bytes = d } → Checked rs i s d
-  fine : Fine rs → ((x : Said) → judged x i rs ≡ x)
+  fine : Fine rs → ((x : Said) → recordsSay x i rs ≡ x)
       → walked rs i (record { writing = false; says = accepted s; bytes = d }) ≡ record { writing = false; says = accepted (summed s rs); bytes = d } → Checked rs i s d
 
 check-more : (r : FrameRecord) (rs : List FrameRecord) (i s : ℕ) (d : List ℕ) → eqb (recordFault r) 0 ≡ true → Checked rs (i + 1) (grown s (pixelBytes r)) d → Checked (r ∷ rs) i s d
-unfolding judged walked written
+unfolding recordsSay walked recordWritten
 check-more r rs i s d e (faulty n at says walks) = faulty n at (λ x. rw e (says x)) (rw e walks)
 check-more r rs i s d e (fine good says walks) = fine (one (eqb-true (recordFault r) 0 e) good) (λ x. rw e (says x)) (rw e walks)
 
 check-one : (b : Bool) (r : FrameRecord) (rs : List FrameRecord) (i s : ℕ) (d : List ℕ) → eqb (recordFault r) 0 ≡ b → Checked rs (i + 1) (grown s (pixelBytes r)) d → Checked (r ∷ rs) i s d
-unfolding judged walked
+unfolding recordsSay walked
 check-one true r rs i s d e rest = check-more r rs i s d e rest
 check-one false r rs i s d e rest = faulty (recordFault r) i (λ x. rw e) (rw e (stays-refused-at rs (i + 1) false (recordFault r) i d))
 
 pub check : (rs : List FrameRecord) (i s : ℕ) (d : List ℕ) → Checked rs i s d
-unfolding judged walked
+unfolding recordsSay walked
 check [] i s d = fine none (λ x. refl) refl
 check (r ∷ rs) i s d = check-one (eqb (recordFault r) 0) r rs i s d refl (check rs (i + 1) (grown s (pixelBytes r)) d)
 
 -- The sum is exact up to the limit, and past it where the pixels are.
-past : (rs : List FrameRecord) (s : ℕ) → 4294967295 < s → summed s rs ≡ s
+past : (rs : List FrameRecord) (s : ℕ) → lengthLimit < s → summed s rs ≡ s
 past [] s h = refl
 past (r ∷ rs) s h = rw (lt-ltb _ _ h) (past rs s h)
 
-pub sum-fits : (rs : List FrameRecord) (s : ℕ) → s + allPixels rs ≤ 4294967295 → summed s rs ≡ s + allPixels rs
+pub sum-fits : (rs : List FrameRecord) (s : ℕ) → s + allPixels rs ≤ lengthLimit → summed s rs ≡ s + allPixels rs
 sum-fits [] s h = sym (add-zero s)
 sum-fits (r ∷ rs) s h =
-    let low : s ≤ 4294967295 = omega arith in
+    let low : s ≤ lengthLimit = omega arith in
     rw (le-ltb _ _ low) (sum-fits rs (s + pixelBytes r) (omega arith) ∙ add-assoc s (pixelBytes r) (allPixels rs))
 
-sum-step : (b : Bool) (r : FrameRecord) (rs : List FrameRecord) (s : ℕ) → ltb lengthLimit s ≡ b → 4294967295 < s + (pixelBytes r + allPixels rs)
-    → (4294967295 < s + pixelBytes r + allPixels rs → 4294967295 < summed (s + pixelBytes r) rs) → 4294967295 < summed s (r ∷ rs)
+sum-step : (b : Bool) (r : FrameRecord) (rs : List FrameRecord) (s : ℕ) → ltb lengthLimit s ≡ b → lengthLimit < s + (pixelBytes r + allPixels rs)
+    → (lengthLimit < s + pixelBytes r + allPixels rs → lengthLimit < summed (s + pixelBytes r) rs) → lengthLimit < summed s (r ∷ rs)
 sum-step true r rs s e h rest = rw (e, past rs s (ltb-true _ _ e)) (ltb-true _ _ e)
 sum-step false r rs s e h rest = rw e (rest (omega arith))
 
-pub sum-past : (rs : List FrameRecord) (s : ℕ) → 4294967295 < s + allPixels rs → 4294967295 < summed s rs
+pub sum-past : (rs : List FrameRecord) (s : ℕ) → lengthLimit < s + allPixels rs → lengthLimit < summed s rs
 sum-past [] s h = omega arith
 sum-past (r ∷ rs) s h = sum-step (ltb lengthLimit s) r rs s refl h (sum-past rs (s + pixelBytes r))

@@ -13,9 +13,10 @@ use Rattle.refusal.specs.declared.Answer.{Answer}
 use Rattle.refusal.specs.declared.Answer.the-variants.{Done}
 use Rattle.refusal.specs.Answers.{Said, accepted, refused, refusedAt, said, leaves}
 use Rattle.records.specs.declared.FrameRecord.{FrameRecord}
-use Rattle.records.specs.Layout.{headerBytes}
+use Rattle.records.specs.Layout.{headerBytes, headerSize}
+use Rattle.records.specs.Faults.{frameLimit}
 use Rattle.layout.specs.declared.Progress.{Progress}
-use Rattle.layout.specs.LayOut.{lengthLimit, pixelsFrom, allPixels, totalLength, judged, layoutSays, placed, tableBytes, headerOf, layoutBytes}
+use Rattle.layout.specs.LayOut.{lengthLimit, pixelsFrom, allPixels, totalLength, recordsSay, layoutSays, placed, tableBytes, headerOf, layoutBytes}
 use Rattle.layout.specs.HowLaidOut.{State, stateOf, recordPlace, walked, stopped, readied, laid}
 use Rattle.layout.proofs.Checking.{stays-refused, stays-refused-at, Fine, summed, Checked, faulty, fine, check, sum-fits, sum-past}
 use Rattle.layout.proofs.Writing.{over-length, over-take, over-drop, write-all}
@@ -60,41 +61,41 @@ module _ (rs : List FrameRecord) (shop : ℕ) (old : List ℕ) where
   abbrev rest : State → State
   rest z = walked rs 0 (readied n shop z)
 
-  many : (z : State) → z .bytes ≡ old → 255 < n → Right (rest z)
+  many : (z : State) → z .bytes ≡ old → frameLimit < n → Right (rest z)
   unfolding readied layoutSays
   many z e h =
       right (refused 3) (rest z) (rw (lt-ltb _ _ h))
       (rw (lt-ltb _ _ h, e) (ap (λ (y : State). y .says) (stays-refused rs 0 false 3 old), ap (λ (y : State). y .bytes) (stays-refused rs 0 false 3 old)))
 
-  module _ (few : n ≤ 255) where
-    written-out : Fine rs → total ≤ 4294967295 → length old ≡ total
-        → Ends (walked rs 0 (record { writing = true; says = accepted (pixelsFrom n); bytes = headerBytes (headerOf n shop total) ++ drop 12 old })) (accepted total) (layoutBytes rs shop old)
+  module _ (few : n ≤ frameLimit) where
+    written-out : Fine rs → total ≤ lengthLimit → length old ≡ total
+        → Ends (walked rs 0 (record { writing = true; says = accepted (pixelsFrom n); bytes = headerBytes (headerOf n shop total) ++ drop headerSize old })) (accepted total) (layoutBytes rs shop old)
     unfolding layoutBytes
     written-out good small room =
         let head = headerBytes (headerOf n shop total) in
-        let e : 0 + length head ≡ 12 = refl in
-        let h : 12 ≤ length old = omega arith in
-        let long : length (head ++ drop 12 old) ≡ length old = over-length old head 0 12 e h in
-        let d = head ++ drop 12 old in
+        let e : 0 + length head ≡ headerSize = refl in
+        let h : headerSize ≤ length old = omega arith in
+        let long : length (head ++ drop headerSize old) ≡ length old = over-length old head 0 headerSize e h in
+        let d = head ++ drop headerSize old in
         let all = write-all rs 0 (pixelsFrom n) d good (omega arith) (omega arith) (rw long (omega arith)) in
         let same : recordPlace (0 + n) ≡ pixelsFrom n = rw zero-add in (
           ap (λ (z : State). z .says) all,
           ap (λ (z : State). z .bytes) all
-              ∙ ap (λ (x : List ℕ). x ++ (tableBytes (placed (pixelsFrom n) rs) ++ drop (recordPlace (0 + n)) d)) (over-take old head 0 12 e h)
+              ∙ ap (λ (x : List ℕ). x ++ (tableBytes (placed (pixelsFrom n) rs) ++ drop (recordPlace (0 + n)) d)) (over-take old head 0 headerSize e h)
               ∙ ap (λ (k : ℕ). head ++ (tableBytes (placed (pixelsFrom n) rs) ++ drop k d)) same
-              ∙ ap (λ (x : List ℕ). head ++ (tableBytes (placed (pixelsFrom n) rs) ++ x)) (over-drop old head 0 12 e h (pixelsFrom n) (omega arith)),
+              ∙ ap (λ (x : List ℕ). head ++ (tableBytes (placed (pixelsFrom n) rs) ++ x)) (over-drop old head 0 headerSize e h (pixelsFrom n) (omega arith)),
         )
 
     refused-ends : (k : ℕ) → Ends (walked rs 0 (stopped (refused k) old)) (refused k) old
     refused-ends k = (ap (λ (y : State). y .says) (stays-refused rs 0 false k old), ap (λ (y : State). y .bytes) (stays-refused rs 0 false k old))
 
-    past-limit : 4294967295 < total → 4294967295 < pixelsFrom n + summed 0 rs
+    past-limit : lengthLimit < total → lengthLimit < pixelsFrom n + summed 0 rs
     past-limit h = by-sum (ltb lengthLimit (allPixels rs)) refl where
-      by-sum : (c : Bool) → ltb lengthLimit (allPixels rs) ≡ c → 4294967295 < pixelsFrom n + summed 0 rs
+      by-sum : (c : Bool) → ltb lengthLimit (allPixels rs) ≡ c → lengthLimit < pixelsFrom n + summed 0 rs
       by-sum true q = let more = sum-past rs 0 (rw zero-add (ltb-true _ _ q)) in omega arith
       by-sum false q = rw (sum-fits rs 0 (rw zero-add (ltb-false _ _ q)), zero-add) h
 
-    within : (b : Bool) → ltb lengthLimit total ≡ false → eqb (length old) total ≡ b → Fine rs → ((x : Said) → judged x 0 rs ≡ x)
+    within : (b : Bool) → ltb lengthLimit total ≡ false → eqb (length old) total ≡ b → Fine rs → ((x : Said) → recordsSay x 0 rs ≡ x)
         → Right (rest summed-up)
     unfolding readied layoutSays
     within true e f good says =
@@ -106,16 +107,16 @@ module _ (rs : List FrameRecord) (shop : ℕ) (old : List ℕ) where
         (rw (le-ltb _ _ few, sum-fits rs 0 (omega (arith, ltb-false lengthLimit total e)), zero-add, e, f) (refused-ends 11))
 
     -- Sound records: 14, 11, or the spool.
-    sound : (a b : Bool) → ltb lengthLimit total ≡ a → eqb (length old) total ≡ b → Fine rs → ((x : Said) → judged x 0 rs ≡ x)
+    sound : (a b : Bool) → ltb lengthLimit total ≡ a → eqb (length old) total ≡ b → Fine rs → ((x : Said) → recordsSay x 0 rs ≡ x)
         → Right (rest summed-up)
     unfolding readied layoutSays
     sound true b e f good says =
-        let past : 4294967295 < pixelsFrom n + summed 0 rs = past-limit (ltb-true _ _ e) in
+        let past : lengthLimit < pixelsFrom n + summed 0 rs = past-limit (ltb-true _ _ e) in
         right (refused 14) (rest summed-up) (rw (le-ltb _ _ few, says verdict, e))
         (rw (le-ltb _ _ few, lt-ltb _ _ past) (refused-ends 14))
     sound false b e f good says = within b e f good says
 
-  checked : n ≤ 255 → Checked rs 0 0 old → Right (rest (walked rs 0 (begins old)))
+  checked : n ≤ frameLimit → Checked rs 0 0 old → Right (rest (walked rs 0 (begins old)))
   unfolding readied layoutSays
   checked few (faulty k at says walks) =
       right (refusedAt k at) (rest (walked rs 0 (begins old))) (rw (le-ltb _ _ few, says verdict))
@@ -126,12 +127,12 @@ module _ (rs : List FrameRecord) (shop : ℕ) (old : List ℕ) where
   keeps (faulty k at says walks) = ap (λ (z : State). z .bytes) walks
   keeps (fine good says walks) = ap (λ (z : State). z .bytes) walks
 
-  all : (b : Bool) → ltb 255 n ≡ b → Right (rest (walked rs 0 (begins old)))
+  all : (b : Bool) → ltb frameLimit n ≡ b → Right (rest (walked rs 0 (begins old)))
   all true e = many (walked rs 0 (begins old)) (keeps (check rs 0 0 old)) (ltb-true _ _ e)
   all false e = checked (ltb-false _ _ e) (check rs 0 0 old)
 
 pub is-laid : (rs : List FrameRecord) (shop : ℕ) (old : List ℕ) (p : Progress) (new : List ℕ) → stateOf p new ≡ laid rs shop old → LaidOut rs shop old (p .answer) new
 unfolding laid
 is-laid rs shop old p new e =
-    let ends = all rs shop old (ltb 255 (length rs)) refl in
+    let ends = all rs shop old (ltb frameLimit (length rs)) refl in
     (ap (λ (z : State). z .says) e ∙ ends .0, ap (λ (z : State). z .bytes) e ∙ ends .1)

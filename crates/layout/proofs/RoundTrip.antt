@@ -13,23 +13,23 @@ use borrow.Author.Tests.{le-ltb, ltb-false, eqb-true}
 use Rattle.refusal.specs.Answers.{accepted, refused}
 use Rattle.records.specs.declared.FrameRecord.{FrameRecord}
 use Rattle.records.specs.declared.Header.{Header}
-use Rattle.records.specs.Layout.{headerWidths, headerFrom, headerIn, recordIn, headerBytes}
-use Rattle.records.specs.Faults.{pixelBytes, recordFault}
+use Rattle.records.specs.Layout.{headerWidths, headerFrom, headerIn, recordIn, headerBytes, headerSize, recordSize}
+use Rattle.records.specs.Faults.{pixelBytes, recordFault, frameLimit}
 use Rattle.spool.specs.Open.{openFault}
 use Rattle.spool.specs.Find.{finds, noRecord, recordAt, pixelsOutside, findSays, pixelsStart, pixelsLength, FindSaid}
 use Rattle.spool.proofs.OpenFaults.{no-fault}
 use Rattle.spool.proofs.FindFaults.{by-record, found}
 use Rattle.layout.specs.LayOut.{lengthLimit, pixelsFrom, allPixels, totalLength, layoutSays, withOffset, placed, tableBytes, headerOf, layoutBytes}
-use Rattle.layout.specs.RoundTrip.{FitAll, pixelPlace, Holds}
+use Rattle.layout.specs.RoundTrip.{AllOfWidths, pixelPlace, HoldsRecords}
 use Rattle.layout.proofs.Checking.{Fine, none, one, Checked, faulty, fine, check}
 use Rattle.layout.proofs.Writing.{over-length, over-drop}
 use Rattle.layout.proofs.Read.{read-back, record-back}
 
 -- What holds where the layout is accepted.
 record Fits (rs : List FrameRecord) (room : ℕ) : Type 0 where
-  few : length rs ≤ 255
+  few : length rs ≤ frameLimit
   sound : Fine rs
-  small : totalLength rs ≤ 4294967295
+  small : totalLength rs ≤ lengthLimit
   exact : room ≡ totalLength rs
 
 module _ (rs : List FrameRecord) (room m : ℕ) where
@@ -38,14 +38,14 @@ module _ (rs : List FrameRecord) (room m : ℕ) where
   verdict false true e = (refl, refl)
   verdict false false e = let z : _≡_ {A = ℕ} 0 1 = cc in absurd (omega arith)
 
-  by-check : length rs ≤ 255 → Checked rs 0 0 [] → layoutSays rs room ≡ accepted m → Fits rs room
+  by-check : length rs ≤ frameLimit → Checked rs 0 0 [] → layoutSays rs room ≡ accepted m → Fits rs room
   unfolding layoutSays
   by-check few (faulty n at says walks) e = let f = rw (le-ltb _ _ few, says _) at e in let z : _≡_ {A = ℕ} 0 1 = cc in absurd (omega arith)
   by-check few (fine sound says walks) e =
       let v = verdict (ltb lengthLimit (totalLength rs)) (eqb room (totalLength rs)) (rw (le-ltb _ _ few, says _) at e) in
       record { few = few; sound = sound; small = ltb-false _ _ (v .0); exact = eqb-true _ _ (v .1) }
 
-  by-count : (b : Bool) → ltb 255 (length rs) ≡ b → layoutSays rs room ≡ accepted m → Fits rs room
+  by-count : (b : Bool) → ltb frameLimit (length rs) ≡ b → layoutSays rs room ≡ accepted m → Fits rs room
   unfolding layoutSays
   by-count true q e = let f = rw q at e in let z : _≡_ {A = ℕ} 0 1 = cc in absurd (omega arith)
   by-count false q e = by-check (ltb-false _ _ q) (check rs 0 0 []) e
@@ -60,11 +60,11 @@ placed-at [] at k l = absurd (omega arith)
 placed-at (r ∷ rs) at zero l = rw (add-zero at)
 placed-at (r ∷ rs) at (suc k) l = placed-at rs (at + pixelBytes r) k (omega arith) ∙ ap (λ (n : ℕ). withOffset n (getD rs k noRecord)) (add-assoc at (pixelBytes r) (allPixels (take k rs)))
 
-placed-fits : (rs : List FrameRecord) (at : ℕ) → FitAll rs → at + allPixels rs ≤ 4294967295 → FitAll (placed at rs)
+placed-fits : (rs : List FrameRecord) (at : ℕ) → AllOfWidths rs → at + allPixels rs ≤ lengthLimit → AllOfWidths (placed at rs)
 placed-fits [] at h small = tt
 placed-fits (r ∷ rs) at h small = ((omega arith, h .0 .1), placed-fits rs (at + pixelBytes r) (h .1) (omega arith))
 
-table-length : (rs : List FrameRecord) → length (tableBytes rs) ≡ 16 * length rs
+table-length : (rs : List FrameRecord) → length (tableBytes rs) ≡ recordSize * length rs
 table-length [] = refl
 table-length (r ∷ rs) = let more = table-length rs in simp length-append (omega arith)
 
@@ -83,7 +83,7 @@ same-fault : (at : ℕ) (r : FrameRecord) → recordFault (withOffset at r) ≡ 
 unfolding recordFault
 same-fault at r = refl
 
-module _ (rs : List FrameRecord) (shop : ℕ) (old : List ℕ) (fits : Fits rs (length old)) (each : FitAll rs) (low : shop < 2 ^ 16) where
+module _ (rs : List FrameRecord) (shop : ℕ) (old : List ℕ) (fits : Fits rs (length old)) (each : AllOfWidths rs) (low : shop < 2 ^ 16) where
   abbrev n : ℕ
   n = length rs
 
@@ -119,14 +119,14 @@ module _ (rs : List FrameRecord) (shop : ℕ) (old : List ℕ) (fits : Fits rs (
   behind k l = ap (drop k) file-is ∙ over-drop old (head ++ table) 0 (pixelsFrom n) written room k l
 
   abbrev header : Header
-  header = record { count = n; shop = shop; table = 12; length = total }
+  header = record { count = n; shop = shop; table = headerSize; length = total }
 
   header-is : header ≡ headerIn file
   unfolding layoutBytes headerIn
   header-is =
       let few = fits .few in
       let small = fits .small in
-      sym (ap headerFrom (read-back headerWidths (n ∷ shop ∷ 12 ∷ total ∷ []) (table ++ tail) (omega arith, (low, (lit< tt, (omega arith, tt))))))
+      sym (ap headerFrom (read-back headerWidths (n ∷ shop ∷ headerSize ∷ total ∷ []) (table ++ tail) (omega arith, (low, (lit< tt, (omega arith, tt))))))
 
   opens-well : openFault file ≡ 0
   opens-well = no-fault file header header-is (rw long (omega arith)) (sym long) (fits .few) (omega arith) (rw long (omega arith))
@@ -141,10 +141,10 @@ module _ (rs : List FrameRecord) (shop : ℕ) (old : List ℕ) (fits : Fits rs (
     record-is : r ≡ recordAt file k
     unfolding layoutBytes recordAt
     record-is =
-        let small : pixelsFrom n + allPixels rs ≤ 4294967295 = fits .small in
+        let small : pixelsFrom n + allPixels rs ≤ lengthLimit = fits .small in
         sym
-        (ap (λ (h : Header). recordIn (drop (h .table + 16 * k) file)) (sym header-is)
-        ∙ ap recordIn (drop-append-add head (table ++ tail) (16 * k))
+        (ap (λ (h : Header). recordIn (drop (h .table + recordSize * k) file)) (sym header-is)
+        ∙ ap recordIn (drop-append-add head (table ++ tail) (recordSize * k))
         ∙ record-back (placed (pixelsFrom n) rs) k tail (placed-fits rs (pixelsFrom n) each small) (rw placed-length l)
         ∙ placed-at rs (pixelsFrom n) k l)
 
@@ -153,7 +153,7 @@ module _ (rs : List FrameRecord) (shop : ℕ) (old : List ℕ) (fits : Fits rs (
     inside =
         let all = pixels-within rs k l in
         let end : at + pixelBytes (getD rs k noRecord) ≤ length file = rw long (omega arith) in
-        rw (le-ltb at 12 (omega arith), le-ltb _ _ end)
+        rw (le-ltb at headerSize (omega arith), le-ltb _ _ end)
 
     finds-it : findSays file k ≡ finds r
     finds-it =
@@ -161,12 +161,12 @@ module _ (rs : List FrameRecord) (shop : ℕ) (old : List ℕ) (fits : Fits rs (
         (found file r (sym (same-fault at (getD rs k noRecord) ∙ sound-at rs k (fits .sound) l)) inside
         ∙ by-record file k opens-well (rw (← header-is) l) record-is)
 
-  holds : Holds rs shop old file
+  holds : HoldsRecords rs shop old file
   holds = record {
     spool = rw (opens-well, ← header-is);
     frame = finds-it;
     pixels = λ k l. ap (λ (f : FindSaid). take (pixelsLength f) (drop (pixelsStart f) file)) (finds-it k l) ∙ ap (take (pixelBytes (getD rs k noRecord))) (behind (pixelPlace rs k) (omega arith));
   }
 
-pub round-trip : (rs : List FrameRecord) (shop : ℕ) (found : List ℕ) (m : ℕ) → FitAll rs → shop < 2 ^ 16 → layoutSays rs (length found) ≡ accepted m → Holds rs shop found (layoutBytes rs shop found)
-round-trip rs shop found m each low e = holds rs shop found (by-count rs (length found) m (ltb 255 (length rs)) refl e) each low
+pub round-trip : (rs : List FrameRecord) (shop : ℕ) (found : List ℕ) (m : ℕ) → AllOfWidths rs → shop < 2 ^ 16 → layoutSays rs (length found) ≡ accepted m → HoldsRecords rs shop found (layoutBytes rs shop found)
+round-trip rs shop found m each low e = holds rs shop found (by-count rs (length found) m (ltb frameLimit (length rs)) refl e) each low

@@ -11,9 +11,9 @@ use lib.Seq.{take-at, drop-at, drop-drop}
 use borrow.Author.Tests.{le-ltb}
 use Rattle.refusal.specs.Answers.{accepted}
 use Rattle.records.specs.declared.FrameRecord.{FrameRecord}
-use Rattle.records.specs.Layout.{recordBytes}
-use Rattle.records.specs.Faults.{pixelBytes, recordFault}
-use Rattle.layout.specs.LayOut.{allPixels, withOffset, placed, tableBytes}
+use Rattle.records.specs.Layout.{recordBytes, recordSize}
+use Rattle.records.specs.Faults.{pixelBytes, recordFault, frameLimit}
+use Rattle.layout.specs.LayOut.{allPixels, withOffset, placed, tableBytes, lengthLimit}
 use Rattle.layout.specs.HowLaidOut.{recordPlace, visited, walked}
 use Rattle.layout.proofs.Written.{in-place}
 use Rattle.layout.proofs.Checking.{Fine, none, one}
@@ -44,8 +44,8 @@ module _ (d b : List ℕ) (at end : ℕ) (e : at + length b ≡ end) (h : end �
       ∙ ap (λ (m : ℕ). drop m d) (add-sub-of-le l)
 
 -- One record written, where it is sound and fits.
-module _ (r : FrameRecord) (i end : ℕ) (d : List ℕ) (few : i < 255) (small : end ≤ 4294967295) (room : recordPlace (i + 1) ≤ length d) where
-  ends : recordPlace i + 16 ≡ recordPlace (i + 1)
+module _ (r : FrameRecord) (i end : ℕ) (d : List ℕ) (few : i < frameLimit) (small : end ≤ lengthLimit) (room : recordPlace (i + 1) ≤ length d) where
+  ends : recordPlace i + recordSize ≡ recordPlace (i + 1)
   ends = omega arith
 
   write-one : recordFault r ≡ 0 → visited (record { writing = true; says = accepted end; bytes = d }) i r
@@ -55,15 +55,15 @@ module _ (r : FrameRecord) (i end : ℕ) (d : List ℕ) (few : i < 255) (small :
       (ap (λ (b : List ℕ). record { writing = true; says = accepted (end + pixelBytes r); bytes = b })
       (in-place i end r d few small (omega arith) ∙ ap (λ (k : ℕ). take (recordPlace i) d ++ (recordBytes (withOffset end r) ++ drop k d)) ends))
 
-pub write-all : (rs : List FrameRecord) (i end : ℕ) (d : List ℕ) → Fine rs → i + length rs ≤ 255 → end + allPixels rs ≤ 4294967295 → recordPlace (i + length rs) ≤ length d
+pub write-all : (rs : List FrameRecord) (i end : ℕ) (d : List ℕ) → Fine rs → i + length rs ≤ frameLimit → end + allPixels rs ≤ lengthLimit → recordPlace (i + length rs) ≤ length d
     → walked rs i (record { writing = true; says = accepted end; bytes = d })
     ≡ record { writing = true; says = accepted (end + allPixels rs); bytes = take (recordPlace i) d ++ (tableBytes (placed end rs) ++ drop (recordPlace (i + length rs)) d) }
 unfolding walked
 write-all [] i end d none few small room =
     rw (add-zero end, add-zero i) (ap (λ (b : List ℕ). record { writing = true; says = accepted end; bytes = b }) (sym (take-append-drop (recordPlace i) d)))
 write-all (r ∷ rs) i end d (one sound rest) few small room =
-    let low : i < 255 = omega arith in
-    let fits : end ≤ 4294967295 = omega arith in
+    let low : i < frameLimit = omega arith in
+    let fits : end ≤ lengthLimit = omega arith in
     let next : recordPlace (i + 1) ≤ length d = omega arith in
     let b = recordBytes (withOffset end r) in
     let e = ends r i end d low fits next in

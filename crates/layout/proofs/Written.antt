@@ -12,12 +12,12 @@ use Rattle.refusal.specs.declared.Refusal.{Refusal}
 use Rattle.refusal.specs.declared.Answer.the-variants.{Done, Refused, RefusedAt}
 use Rattle.refusal.specs.Refusals.{numberOf}
 use Rattle.records.specs.declared.FrameRecord.{FrameRecord}
-use Rattle.records.specs.Layout.{recordBytes}
-use Rattle.records.specs.Faults.{pixelBytes, recordFault}
+use Rattle.records.specs.Layout.{recordBytes, recordSize}
+use Rattle.records.specs.Faults.{pixelBytes, recordFault, frameLimit}
 use Rattle.refusal.proofs.Numbers.{numbered}
 use Rattle.layout.specs.declared.Progress.{Progress}
-use Rattle.layout.specs.LayOut.{withOffset}
-use Rattle.layout.specs.HowLaidOut.{stateOf, grown, recordPlace, written, visited}
+use Rattle.layout.specs.LayOut.{withOffset, lengthLimit}
+use Rattle.layout.specs.HowLaidOut.{stateOf, grown, recordPlace, recordWritten, visited}
 
 -- Bytes copied to the start of a list.
 pub copied : (d : List ℕ) {bytes b d′ : List ℕ} → bytes ≡ b → d′ ≡ take (length bytes) bytes ++ drop (length bytes) d → d′ ≡ b ++ drop (length b) d
@@ -36,25 +36,25 @@ put-there d b part at n h e =
     (ap (drop n) (take-all (length d - at) (drop at d) (le-of-eq (length-drop at d))) ∙ drop-drop n at d))
 
 module _ (place end : ℕ) (r : FrameRecord) (d : List ℕ) where
-  pub not-writing : d ≡ written false place end r d
-  unfolding written
+  pub not-writing : d ≡ recordWritten false place end r d
+  unfolding recordWritten
   not-writing = refl
 
-  pub past-limit : 255 ≤ place → d ≡ written true place end r d
-  unfolding written
+  pub past-limit : frameLimit ≤ place → d ≡ recordWritten true place end r d
+  unfolding recordWritten
   past-limit h = simp (le-ltb _ _ h)
 
-  pub past-length : place < 255 → 4294967295 < end → d ≡ written true place end r d
-  unfolding written
+  pub past-length : place < frameLimit → lengthLimit < end → d ≡ recordWritten true place end r d
+  unfolding recordWritten
   past-length h l = simp (lt-ltb _ _ h, lt-leb _ _ l)
 
-  pub no-room : place < 255 → end ≤ 4294967295 → length d < recordPlace place + 16 → d ≡ written true place end r d
-  unfolding written
+  pub no-room : place < frameLimit → end ≤ lengthLimit → length d < recordPlace place + recordSize → d ≡ recordWritten true place end r d
+  unfolding recordWritten
   no-room h l s = simp (lt-ltb _ _ h, le-leb _ _ l, lt-leb _ _ s)
 
-  pub in-place : place < 255 → end ≤ 4294967295 → recordPlace place + 16 ≤ length d
-      → written true place end r d ≡ take (recordPlace place) d ++ (recordBytes (withOffset end r) ++ drop (recordPlace place + 16) d)
-  unfolding written
+  pub in-place : place < frameLimit → end ≤ lengthLimit → recordPlace place + recordSize ≤ length d
+      → recordWritten true place end r d ≡ take (recordPlace place) d ++ (recordBytes (withOffset end r) ++ drop (recordPlace place + recordSize) d)
+  unfolding recordWritten
   in-place h l s = simp (lt-ltb _ _ h, le-leb _ _ l, le-leb _ _ s)
 
 -- One record's visit, by what the pass says so far.
@@ -63,7 +63,7 @@ module _ (p : Progress) (d : List ℕ) (place : ℕ) (r : FrameRecord) where
       → stateOf (record { writing = p .writing; answer = RefusedAt why place }) d ≡ visited (stateOf p d) place r
   visit-faulty {end} why e f = rw (e, ← f, numbered why)
 
-  pub visit-sound : {end next : ℕ} {d′ : List ℕ} → p .answer ≡ Done end → 0 ≡ recordFault r → next ≡ grown end (pixelBytes r) → d′ ≡ written (p .writing) place end r d
+  pub visit-sound : {end next : ℕ} {d′ : List ℕ} → p .answer ≡ Done end → 0 ≡ recordFault r → next ≡ grown end (pixelBytes r) → d′ ≡ recordWritten (p .writing) place end r d
       → stateOf (record { writing = p .writing; answer = Done next }) d′ ≡ visited (stateOf p d) place r
   visit-sound e f g b = rw (e, ← f, g, b)
 

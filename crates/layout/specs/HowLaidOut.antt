@@ -1,5 +1,6 @@
 -- How the code lays out: a pass over the records that checks them, the header, and a pass that writes them. The proofs show that this
--- comes to what `LayOut` says.
+-- comes to what `LayOut` says. What a function leaves has the participle of its name: `visit` and `visited`, `write_record` and
+-- `recordWritten`.
 -- Assumes nothing.
 use Prim.Native.Nat.{ℕ, _+_, _*_}
 use mathlib.Core.Bool.{Bool, true, false, cond}
@@ -32,8 +33,8 @@ abbrev pub recordPlace : ℕ → ℕ
 recordPlace place = headerSize + recordSize * place
 
 -- The destination with a record written at its place, where it is to be written and fits.
-unfoldable pub written : Bool → ℕ → ℕ → FrameRecord → List ℕ → List ℕ
-written writing place end r bytes =
+unfoldable pub recordWritten : Bool → ℕ → ℕ → FrameRecord → List ℕ → List ℕ
+recordWritten writing place end r bytes =
     cond writing
     (cond (ltb place frameLimit)
     (cond (leb end lengthLimit)
@@ -48,7 +49,7 @@ written writing place end r bytes =
 abbrev pub visitedAt : Bool → Said → List ℕ → ℕ → FrameRecord → State
 visitedAt writing (accepted end) bytes place r =
     cond (eqb (recordFault r) 0)
-    (record { writing = writing; says = accepted (grown end (pixelBytes r)); bytes = written writing place end r bytes })
+    (record { writing = writing; says = accepted (grown end (pixelBytes r)); bytes = recordWritten writing place end r bytes })
     (record { writing = writing; says = refusedAt (recordFault r) place; bytes = bytes })
 visitedAt writing (refused n) bytes place r = record { writing = writing; says = refused n; bytes = bytes }
 visitedAt writing (refusedAt n at) bytes place r = record { writing = writing; says = refusedAt n at; bytes = bytes }

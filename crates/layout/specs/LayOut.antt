@@ -27,16 +27,16 @@ abbrev pub totalLength : List FrameRecord → ℕ
 totalLength rs = pixelsFrom (length rs) + allPixels rs
 
 -- 6 and 7, of records the first of which has the given place: the first one at fault decides, and `sound` is said if there is none.
-unfoldable pub judged : Said → ℕ → List FrameRecord → Said
-judged sound place [] = sound
-judged sound place (r ∷ rs) =
-    cond (eqb (recordFault r) 0) (judged sound (place + 1) rs) (refusedAt (recordFault r) place)
+unfoldable pub recordsSay : Said → ℕ → List FrameRecord → Said
+recordsSay sound place [] = sound
+recordsSay sound place (r ∷ rs) =
+    cond (eqb (recordFault r) 0) (recordsSay sound (place + 1) rs) (refusedAt (recordFault r) place)
 
 -- The answer, for a destination of `room` bytes: 3, the records, 14, 11, or the total length.
 unfoldable pub layoutSays : List FrameRecord → ℕ → Said
 layoutSays rs room =
     cond (ltb frameLimit (length rs)) (refused 3)
-    (judged
+    (recordsSay
     (cond (ltb lengthLimit (totalLength rs)) (refused 14)
     (cond (eqb room (totalLength rs)) (accepted (totalLength rs)) (refused 11)))
     0 rs)

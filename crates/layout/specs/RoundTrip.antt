@@ -8,20 +8,20 @@ use Rattle.records.specs.declared.FrameRecord.{FrameRecord}
 use Rattle.records.specs.Layout.{recordWidths, headerSize, recordNumbers}
 use Rattle.records.specs.Faults.{pixelBytes}
 use Rattle.spool.specs.Open.{opens, openSays}
-use Rattle.spool.specs.Find.{finds, noRecord, findSays, pixelsOf}
+use Rattle.spool.specs.Find.{finds, noRecord, findSays, framePixels}
 use Rattle.layout.specs.LayOut.{pixelsFrom, allPixels, withOffset}
 
 -- Numbers that have these widths, in bytes.
-abbrev pub Fit : List ℕ → List ℕ → Type 0
-Fit [] [] = Unit
-Fit [] (number ∷ numbers) = ⊥
-Fit (width ∷ widths) [] = ⊥
-Fit (width ∷ widths) (number ∷ numbers) = (number < 256 ^ width) × Fit widths numbers
+abbrev pub OfWidths : List ℕ → List ℕ → Type 0
+OfWidths [] [] = Unit
+OfWidths [] (number ∷ numbers) = ⊥
+OfWidths (width ∷ widths) [] = ⊥
+OfWidths (width ∷ widths) (number ∷ numbers) = (number < 256 ^ width) × OfWidths widths numbers
 
 -- Records whose numbers have the widths of the layout, as every record of the code has.
-abbrev pub FitAll : List FrameRecord → Type 0
-FitAll [] = Unit
-FitAll (r ∷ rs) = Fit recordWidths (recordNumbers r) × FitAll rs
+abbrev pub AllOfWidths : List FrameRecord → Type 0
+AllOfWidths [] = Unit
+AllOfWidths (r ∷ rs) = OfWidths recordWidths (recordNumbers r) × AllOfWidths rs
 
 -- Where the pixels of frame k are placed: behind the table and the pixels of the frames before it.
 abbrev pub pixelPlace : List FrameRecord → ℕ → ℕ
@@ -29,7 +29,7 @@ pixelPlace rs k = pixelsFrom (length rs) + allPixels (take k rs)
 
 -- A file with these records, laid out over what was found: it opens; frame k is record k with its pixel offset; and the
 -- frame's pixels are the bytes that stood at that offset before.
-pub record Holds (rs : List FrameRecord) (shop : ℕ) (found file : List ℕ) : Type 0 where
+pub record HoldsRecords (rs : List FrameRecord) (shop : ℕ) (found file : List ℕ) : Type 0 where
   pub spool : openSays file ≡ opens (length rs) shop headerSize
   pub frame : (k : ℕ) → k < length rs → findSays file k ≡ finds (withOffset (pixelPlace rs k) (getD rs k noRecord))
-  pub pixels : (k : ℕ) → k < length rs → pixelsOf file k ≡ take (pixelBytes (getD rs k noRecord)) (drop (pixelPlace rs k) found)
+  pub pixels : (k : ℕ) → k < length rs → framePixels file k ≡ take (pixelBytes (getD rs k noRecord)) (drop (pixelPlace rs k) found)

@@ -18,29 +18,30 @@ ghost use mathlib.Core.Path.{_≡_};
 ghost use mathlib.Core.Bool.{false};
 ghost use Prim.Native.Nat.{_≤_};
 ghost use lib.ListN.{length};
+ghost use Rattle.records.specs.Faults.{frameLimit, pixelBytes};
 ghost use Rattle.refusal.specs.Answers.{accepted, said, leaves};
 ghost use Rattle.layout.specs.LayOut.{layoutSays, layoutBytes};
-ghost use Rattle.layout.specs.HowLaidOut.{stateOf, grown, written, visited, walked, begun, readied};
+ghost use Rattle.layout.specs.HowLaidOut.{stateOf, grown, recordWritten, visited, walked, begun, readied};
 
 // ---- one step at a time
 
 // The greatest length that a header can say.
 const LENGTH_LIMIT: usize = 4294967295;
 
-// A sum that no longer grows once it is past the limit, so that no list of records overflows it.
-fn grow(end: usize, more: usize) -> usize
-    requires { ⌜ more ≤ 25769017350 ⌝ }
-    ensures { λ r. ⌜ r ≡ grown end more ⌝ }
+// The end of a frame's pixels that start at `end`. It no longer grows once it is past the limit, so that
+// no list of records overflows it.
+fn grow(end: usize, frame: FrameRecord) -> usize
+    ensures { λ r. ⌜ r ≡ grown end (pixelBytes frame) ⌝ }
 {
     if LENGTH_LIMIT < end {
         return end;
     }
-    end + more
+    end + pixel_bytes(frame)
 }
 
 // Writes the record of frame number `place`, with its pixels at `end`, if it is to be written.
 fn write_record(dst: &mut [u8], writing: bool, place: usize, end: usize, frame: FrameRecord)
-    ensures { λ _. ⌜ now (dst .exit) ≡ written writing place end frame (now (dst .entry)) ⌝ }
+    ensures { λ _. ⌜ now (dst .exit) ≡ recordWritten writing place end frame (now (dst .entry)) ⌝ }
 {
     if !writing {
         return;
@@ -84,7 +85,7 @@ fn visit(dst: &mut [u8], progress: Progress, place: usize, frame: FrameRecord) -
                 write_record(dst, writing, place, end, frame);
                 Progress {
                     writing,
-                    answer: Answer::Done(grow(end, pixel_bytes(frame))),
+                    answer: Answer::Done(grow(end, frame)),
                 }
             }
         },
@@ -96,7 +97,7 @@ fn visit(dst: &mut [u8], progress: Progress, place: usize, frame: FrameRecord) -
 // The header, once the records are known to be sound and their pixels to take so many bytes: the
 // total length is checked, and the pass that writes is begun.
 fn begin(count: usize, shop: u16, pixels: usize, dst: &mut [u8]) -> Progress
-    requires { ⌜ count ≤ 255 ⌝ }
+    requires { ⌜ count ≤ frameLimit ⌝ }
     ensures { λ r. ⌜ stateOf r (now (dst .exit)) ≡ begun count shop (accepted pixels) (now (dst .entry)) ⌝ }
 {
     if LENGTH_LIMIT < pixels {

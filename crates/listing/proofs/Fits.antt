@@ -1,4 +1,4 @@
--- Every listing is short: 255 lines of at most 52 bytes under the heading.
+-- Every listing is short: as many lines as a spool has frames, under the heading.
 -- Assumes nothing.
 use Prim.Native.Nat.{ℕ, zero, suc, _+_, _*_, _/_, _^_, _≤_, _<_}
 use native.Mathlib.Nat.{pow-suc, div-lt-iff-lt-mul}
@@ -12,12 +12,13 @@ use borrow.Author.Tests.{ltb-true, ltb-false, eqb-true}
 use Rattle.numbers.proofs.Bytes.{AllBytes}
 use Rattle.records.specs.Layout.{headerIn}
 use Rattle.records.proofs.Small.{Small}
+use Rattle.records.specs.Faults.{frameLimit}
 use Rattle.spool.specs.Open.{openFault, openSays}
-use Rattle.spool.specs.Find.{FindSaid, finds, refused, findFault, noRecord, findSays, recordAt}
+use Rattle.spool.specs.Find.{FindSaid, finds, refusesFrame, findFault, noRecord, findSays, recordAt}
 use Rattle.spool.proofs.OpenFaults.{sound}
 use Rattle.spool.proofs.Small.{open-fault-small, find-fault-small, record-at-small}
-use Rattle.listing.specs.Text.{decimal, Buffer, written}
-use Rattle.listing.specs.Listing.{refusedWord, fields, line, lines, spoolText, listing, listingRoom}
+use Rattle.listing.specs.Text.{decimal, Buffer, putText}
+use Rattle.listing.specs.Listing.{refusedWord, fields, line, lines, spoolText, listing, listingRoom, inputLimit}
 use Rattle.listing.proofs.Texts.{one-digit, more-digits, ends}
 
 -- A number below a power of ten has no more digits than that power.
@@ -33,9 +34,13 @@ decimal-short (suc d) n h = by-test (ltb n 10) refl (decimal-short d (n / 10)) w
 -- The answers of Find that a file of bytes gives.
 abbrev Short : FindSaid → Type 0
 Short (finds r) = Small r
-Short (refused n r) = n < 10
+Short (refusesFrame n r) = n < 10
 
-line-short : (k : ℕ) (s : FindSaid) → k < 1000 → Short s → length (line k s) ≤ 52
+-- No line is longer.
+abbrev lineRoom : ℕ
+lineRoom = 52
+
+line-short : (k : ℕ) (s : FindSaid) → k < frameLimit → Short s → length (line k s) ≤ lineRoom
 line-short k (finds r) below small =
     let number = decimal-short 2 k (omega arith) in
     let order = decimal-short 9 (r .order) (omega (arith, small .order)) in
@@ -46,18 +51,18 @@ line-short k (finds r) below small =
     let copies = decimal-short 4 (r .copies) (omega (arith, small .copies)) in
     let offset = decimal-short 9 (r .offset) (omega (arith, small .offset)) in
     simp length-append (omega (arith, number, order, kind, bits, width, height, copies, offset))
-line-short k (refused n r) below small =
+line-short k (refusesFrame n r) below small =
     let number = decimal-short 2 k (omega arith) in
     let why = decimal-short 0 n (omega (arith, small)) in
     simp length-append (omega (arith, number, why))
 
 found-short : (file : List ℕ) → AllBytes file → (k : ℕ) → Short (findSays file k)
 found-short file all k = by-test (eqb (findFault file k) 0) where
-  by-test : (t : Bool) → Short (cond t (finds (recordAt file k)) (refused (findFault file k) noRecord))
+  by-test : (t : Bool) → Short (cond t (finds (recordAt file k)) (refusesFrame (findFault file k) noRecord))
   by-test true = record-at-small file all k
   by-test false = find-fault-small file k
 
-lines-short : (file : List ℕ) → AllBytes file → (left k : ℕ) → k + left ≤ 1000 → length (lines file left k) ≤ 52 * left
+lines-short : (file : List ℕ) → AllBytes file → (left k : ℕ) → k + left ≤ frameLimit → length (lines file left k) ≤ lineRoom * left
 unfolding lines
 lines-short file all zero k h = omega arith
 lines-short file all (suc left) k h =
@@ -66,7 +71,7 @@ lines-short file all (suc left) k h =
     simp length-append (omega (arith, first, others))
 
 pub listing-short : (file : List ℕ) → AllBytes file → length (listing file) ≤ listingRoom
-listing-short file all = by-length (ltb 65536 (length file)) where
+listing-short file all = by-length (ltb inputLimit (length file)) where
   by-fault : (t : Bool) → eqb (openFault file) 0 ≡ t → length (spoolText file (openSays file)) ≤ listingRoom
   by-fault true e =
       let few = sound file (eqb-true (openFault file) 0 e) .few in
@@ -78,8 +83,8 @@ listing-short file all = by-length (ltb 65536 (length file)) where
   by-length false = by-fault (eqb (openFault file) 0) refl
 
 -- What a listing leaves in a buffer, and all of it where there is room for every listing.
-pub answers : (file d : List ℕ) → AllBytes file → (z : Buffer) → z ≡ written (record { bytes = d; at = 0 }) (listing file)
-    → (z ≡ written (record { bytes = d; at = 0 }) (listing file)) × ((z .at ≤ length (z .bytes)) × (listingRoom ≤ length d → take (z .at) (z .bytes) ≡ listing file))
+pub answers : (file d : List ℕ) → AllBytes file → (z : Buffer) → z ≡ putText (record { bytes = d; at = 0 }) (listing file)
+    → (z ≡ putText (record { bytes = d; at = 0 }) (listing file)) × ((z .at ≤ length (z .bytes)) × (listingRoom ≤ length d → take (z .at) (z .bytes) ≡ listing file))
 answers file d all z e =
     let end = ends d (listing file) z e in
     (end .0, (end .1, λ room. end .2 (omega (arith, listing-short file all))))

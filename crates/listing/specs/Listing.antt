@@ -5,8 +5,8 @@ use mathlib.Core.Bool.{cond}
 use mathlib.Core.List.{List, [], _∷_, _++_}
 use lib.ListN.{length}
 use lib.Dec.{ltb}
-use Rattle.spool.specs.Open.{OpenSaid, opens, refused, openSays}
-use Rattle.spool.specs.Find.{FindSaid, finds, refused as refusedFrame, findSays}
+use Rattle.spool.specs.Open.{OpenSaid, opens, refusesFile, openSays}
+use Rattle.spool.specs.Find.{FindSaid, finds, refusesFrame, findSays}
 use Rattle.listing.specs.Text.{decimal}
 
 -- The heading: the names of the eight fields, and a line feed.
@@ -28,7 +28,7 @@ fields (n ∷ m ∷ ns) = decimal n ++ (32 ∷ fields (m ∷ ns))
 -- Rule 9.2: the line of frame k, found or refused.
 abbrev pub line : ℕ → FindSaid → List ℕ
 line k (finds r) = fields (k ∷ r .order ∷ r .kind ∷ r .bits ∷ r .width ∷ r .height ∷ r .copies ∷ r .offset ∷ [])
-line k (refusedFrame n r) = decimal k ++ (32 ∷ (refusedWord ++ fields (n ∷ [])))
+line k (refusesFrame n r) = decimal k ++ (32 ∷ (refusedWord ++ fields (n ∷ [])))
 
 -- The lines of so many frames, the first of which is frame k.
 unfoldable pub lines : List ℕ → ℕ → ℕ → List ℕ
@@ -38,12 +38,15 @@ lines file (suc left) k = line k (findSays file k) ++ lines file left (k + 1)
 -- Rules 9.2 and 9.3, by what Open answers.
 abbrev pub spoolText : List ℕ → OpenSaid → List ℕ
 spoolText file (opens count shop table) = heading ++ lines file count 0
-spoolText file (refused n) = refusedWord ++ fields (n ∷ [])
+spoolText file (refusesFile n) = refusedWord ++ fields (n ∷ [])
 
--- Rule 9.1: 15 comes before what Open answers.
+-- Rule 9.1: the longest file that is listed; 15 comes before what Open answers.
+abbrev pub inputLimit : ℕ
+inputLimit = 65536
+
 abbrev pub listing : List ℕ → List ℕ
-listing file = cond (ltb 65536 (length file)) (refusedWord ++ fields (15 ∷ [])) (spoolText file (openSays file))
+listing file = cond (ltb inputLimit (length file)) (refusedWord ++ fields (15 ∷ [])) (spoolText file (openSays file))
 
--- Room for every listing: the heading and 255 lines, of which none is longer than 52 bytes.
+-- Room for every listing: the heading, and a line for each of the most frames that a spool has.
 abbrev pub listingRoom : ℕ
 listingRoom = 16384

@@ -25,6 +25,6 @@ abbrev pub put : Buffer → ℕ → Buffer
 put b x = cond (ltb (b .at) (length (b .bytes))) (record { bytes = set (b .bytes) (b .at) x; at = b .at + 1 }) b
 
 -- The buffer with a text more: what does not fit is left out.
-unfoldable pub written : Buffer → List ℕ → Buffer
-written b [] = b
-written b (x ∷ xs) = written (put b x) xs
+unfoldable pub putText : Buffer → List ℕ → Buffer
+putText b [] = b
+putText b (x ∷ xs) = putText (put b x) xs

@@ -15,7 +15,7 @@ ghost use lib.ListN.{length, take};
 ghost use Rattle.records.specs.Layout.{headerIn};
 ghost use Rattle.spool.specs.Open.{openFault};
 ghost use Rattle.spool.specs.Find.{finds, findSaid};
-ghost use Rattle.listing.specs.Text.{decimal, put, written};
+ghost use Rattle.listing.specs.Text.{decimal, put, putText};
 ghost use Rattle.listing.specs.Listing.{refusedWord, fields, line, lines, listing, listingRoom};
 
 // The longest file that is listed, and a length of text that no listing exceeds.
@@ -36,7 +36,7 @@ fn put_byte(out: &mut [u8], at: usize, byte: u8) -> usize
 
 // Adds a text.
 fn put_text(out: &mut [u8], at: usize, text: &[u8]) -> usize
-    ensures { λ r. ⌜ record { bytes = now (out .exit); at = r } ≡ written (record { bytes = now (out .entry); at = at }) (now (text .entry)) ⌝ }
+    ensures { λ r. ⌜ record { bytes = now (out .exit); at = r } ≡ putText (record { bytes = now (out .entry); at = at }) (now (text .entry)) ⌝ }
 {
     let mut next = at;
     let mut i: usize = 0;
@@ -49,7 +49,7 @@ fn put_text(out: &mut [u8], at: usize, text: &[u8]) -> usize
 
 // Adds a number in decimal.
 fn put_number(out: &mut [u8], at: usize, n: usize) -> usize
-    ensures { λ r. ⌜ record { bytes = now (out .exit); at = r } ≡ written (record { bytes = now (out .entry); at = at }) (decimal n) ⌝ }
+    ensures { λ r. ⌜ record { bytes = now (out .exit); at = r } ≡ putText (record { bytes = now (out .entry); at = at }) (decimal n) ⌝ }
 {
     let last = (48 + n % 10) as u8;
     if n < 10 {
@@ -61,7 +61,7 @@ fn put_number(out: &mut [u8], at: usize, n: usize) -> usize
 
 // A field of a line: a number and the byte behind it.
 fn put_field(out: &mut [u8], at: usize, n: usize, end: u8) -> usize
-    ensures { λ r. ⌜ record { bytes = now (out .exit); at = r } ≡ written (record { bytes = now (out .entry); at = at }) (decimal n ++ (end ∷ [])) ⌝ }
+    ensures { λ r. ⌜ record { bytes = now (out .exit); at = r } ≡ putText (record { bytes = now (out .entry); at = at }) (decimal n ++ (end ∷ [])) ⌝ }
 {
     let next = put_number(out, at, n);
     put_byte(out, next, end)
@@ -69,7 +69,7 @@ fn put_field(out: &mut [u8], at: usize, n: usize, end: u8) -> usize
 
 // Numbers as the fields of a line.
 fn put_fields(out: &mut [u8], at: usize, numbers: &[usize]) -> usize
-    ensures { λ r. ⌜ record { bytes = now (out .exit); at = r } ≡ written (record { bytes = now (out .entry); at = at }) (fields (now (numbers .entry))) ⌝ }
+    ensures { λ r. ⌜ record { bytes = now (out .exit); at = r } ≡ putText (record { bytes = now (out .entry); at = at }) (fields (now (numbers .entry))) ⌝ }
 {
     let mut next = at;
     let mut i: usize = 0;
@@ -83,7 +83,7 @@ fn put_fields(out: &mut [u8], at: usize, numbers: &[usize]) -> usize
 
 // The line of a frame that is found.
 fn put_frame(out: &mut [u8], at: usize, number: usize, frame: FrameRecord) -> usize
-    ensures { λ r. ⌜ record { bytes = now (out .exit); at = r } ≡ written (record { bytes = now (out .entry); at = at }) (line number (finds frame)) ⌝ }
+    ensures { λ r. ⌜ record { bytes = now (out .exit); at = r } ≡ putText (record { bytes = now (out .entry); at = at }) (line number (finds frame)) ⌝ }
 {
     let numbers = [
         number,
@@ -100,7 +100,7 @@ fn put_frame(out: &mut [u8], at: usize, number: usize, frame: FrameRecord) -> us
 
 // The word `refused`, a refusal's number and the end of the line.
 fn put_refusal(out: &mut [u8], at: usize, refusal: u8) -> usize
-    ensures { λ r. ⌜ record { bytes = now (out .exit); at = r } ≡ written (record { bytes = now (out .entry); at = at }) (refusedWord ++ fields (refusal ∷ [])) ⌝ }
+    ensures { λ r. ⌜ record { bytes = now (out .exit); at = r } ≡ putText (record { bytes = now (out .entry); at = at }) (refusedWord ++ fields (refusal ∷ [])) ⌝ }
 {
     let next = put_text(out, at, b"refused ");
     put_field(out, next, refusal as usize, b'\n')
@@ -108,7 +108,7 @@ fn put_refusal(out: &mut [u8], at: usize, refusal: u8) -> usize
 
 // The line of a frame, found or refused.
 fn put_line(out: &mut [u8], at: usize, frame: usize, found: Found) -> usize
-    ensures { λ r. ⌜ record { bytes = now (out .exit); at = r } ≡ written (record { bytes = now (out .entry); at = at }) (line frame (findSaid found)) ⌝ }
+    ensures { λ r. ⌜ record { bytes = now (out .exit); at = r } ≡ putText (record { bytes = now (out .entry); at = at }) (line frame (findSaid found)) ⌝ }
 {
     match found {
         Found::Frame(record) => put_frame(out, at, frame, record),
@@ -122,7 +122,7 @@ fn put_line(out: &mut [u8], at: usize, frame: usize, found: Found) -> usize
 // The lines of the frames of an open spool, one step of the walker after another.
 fn put_lines(file: &[u8], count: usize, out: &mut [u8], at: usize) -> usize
     requires { ⌜ (openFault (now file) ≡ 0) × (count ≡ headerIn (now file) .count) ⌝ }
-    ensures { λ r. ⌜ record { bytes = now (out .exit); at = r } ≡ written (record { bytes = now (out .entry); at = at }) (lines (now (file .entry)) count 0) ⌝ }
+    ensures { λ r. ⌜ record { bytes = now (out .exit); at = r } ≡ putText (record { bytes = now (out .entry); at = at }) (lines (now (file .entry)) count 0) ⌝ }
 {
     let mut next = at;
     let mut frame: usize = 0;
@@ -138,7 +138,7 @@ fn put_lines(file: &[u8], count: usize, out: &mut [u8], at: usize) -> usize
 // Writes the listing of a file into the buffer, from its start, and gives the length of the text. What does
 // not fit is left out; in LISTING_ROOM bytes every listing fits.
 pub fn write_listing(file: &[u8], out: &mut [u8]) -> usize
-    ensures { λ r. ⌜ record { bytes = now (out .exit); at = r } ≡ written (record { bytes = now (out .entry); at = 0 }) (listing (now (file .entry))) ⌝ }
+    ensures { λ r. ⌜ record { bytes = now (out .exit); at = r } ≡ putText (record { bytes = now (out .entry); at = 0 }) (listing (now (file .entry))) ⌝ }
     ensures within { λ r. ⌜ r ≤ length (now (out .exit)) ⌝ }
     ensures whole { λ r. ⌜ (listingRoom ≤ length (now (out .entry)) → take r (now (out .exit)) ≡ listing (now (file .entry))) ⌝ }
 {

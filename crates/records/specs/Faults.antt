@@ -18,9 +18,12 @@ frameLimit = 255
 abbrev pub isPair : ℕ → ℕ → Bool
 isPair kind bits = cond (eqb kind 1) (eqb bits 8) (cond (eqb kind 2 || eqb kind 3) (offered bits) false)
 
--- Rule 7.4: a width or height that no frame has.
+-- Rule 7.4: the greatest width and height, and one that no frame has.
+abbrev pub sideLimit : ℕ
+sideLimit = 8192
+
 abbrev pub badSide : ℕ → Bool
-badSide side = eqb side 0 || ltb 8192 side
+badSide side = eqb side 0 || ltb sideLimit side
 
 -- The refusal of a record by itself, 6 before 7; 0 stands for none.
 unfoldable pub recordFault : FrameRecord → ℕ

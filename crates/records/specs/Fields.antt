@@ -16,7 +16,7 @@ numbersIn [] bytes = []
 numbersIn (width ∷ widths) bytes = littleEndian (take width bytes) ∷ numbersIn widths (drop width bytes)
 
 -- The bytes of numbers of these widths.
-abbrev pub bytesOf : List ℕ → List ℕ → List ℕ
-bytesOf [] numbers = []
-bytesOf (width ∷ widths) [] = []
-bytesOf (width ∷ widths) (number ∷ numbers) = lowBytes width number ++ bytesOf widths numbers
+abbrev pub fieldBytes : List ℕ → List ℕ → List ℕ
+fieldBytes [] numbers = []
+fieldBytes (width ∷ widths) [] = []
+fieldBytes (width ∷ widths) (number ∷ numbers) = lowBytes width number ++ fieldBytes widths numbers

@@ -10,7 +10,7 @@ use Rattle.records.specs.declared.HeaderRead.{HeaderRead}
 use Rattle.records.specs.declared.HeaderRead.the-variants as header
 use Rattle.records.specs.declared.RecordRead.{RecordRead}
 use Rattle.records.specs.declared.RecordRead.the-variants.{Record, Short}
-use Rattle.records.specs.Fields.{sizeOf, numbersIn, bytesOf}
+use Rattle.records.specs.Fields.{sizeOf, numbersIn, fieldBytes}
 
 -- The header: frame count, shop, offset of the table, length of the file.
 abbrev pub headerWidths : List ℕ
@@ -34,10 +34,10 @@ abbrev pub recordNumbers : FrameRecord → List ℕ
 recordNumbers r = r .offset ∷ r .width ∷ r .height ∷ r .kind ∷ r .bits ∷ r .copies ∷ r .order ∷ []
 
 abbrev pub headerBytes : Header → List ℕ
-headerBytes h = bytesOf headerWidths (headerNumbers h)
+headerBytes h = fieldBytes headerWidths (headerNumbers h)
 
 abbrev pub recordBytes : FrameRecord → List ℕ
-recordBytes r = bytesOf recordWidths (recordNumbers r)
+recordBytes r = fieldBytes recordWidths (recordNumbers r)
 
 -- The header and the record that given numbers are.
 abbrev pub headerFrom : List ℕ → Header

@@ -13,7 +13,7 @@ ghost use Prim.Native.Nat.{_+_, _≤_};
 ghost use lib.ListN.{length, take, drop};
 ghost use Rattle.esrgb.specs.Depths.{offered};
 ghost use Rattle.numbers.specs.Bytes.{littleEndian};
-ghost use Rattle.records.specs.Layout.{recordIn, headerBytes, recordBytes, ReadsHeader, ReadsRecord};
+ghost use Rattle.records.specs.Layout.{recordSize, recordIn, headerBytes, recordBytes, ReadsHeader, ReadsRecord};
 ghost use Rattle.records.specs.Faults.{isPair, badSide, checked, recordFault, pixelBytes};
 
 // The bytes of a header and of a record.
@@ -87,7 +87,7 @@ pub fn read_header(bytes: &[u8]) -> HeaderRead
 
 // The record at the start of some bytes.
 fn record_in(bytes: &[u8]) -> FrameRecord
-    requires { ⌜ 16 ≤ length (now bytes) ⌝ }
+    requires { ⌜ recordSize ≤ length (now bytes) ⌝ }
     ensures { λ r. ⌜ r ≡ recordIn (now (bytes .entry)) ⌝ }
 {
     FrameRecord {
@@ -122,7 +122,7 @@ pub fn read_record(bytes: &[u8], at: usize) -> RecordRead
 
 // ---- as bytes
 
-pub fn header_bytes(header: Header) -> [u8; 12]
+pub fn header_bytes(header: Header) -> [u8; HEADER_SIZE]
     ensures { λ r. ⌜ r ≡ headerBytes header ⌝ }
 {
     let count = two_bytes(header.count);
@@ -145,7 +145,7 @@ pub fn header_bytes(header: Header) -> [u8; 12]
     ]
 }
 
-pub fn record_bytes(frame: FrameRecord) -> [u8; 16]
+pub fn record_bytes(frame: FrameRecord) -> [u8; RECORD_SIZE]
     ensures { λ r. ⌜ r ≡ recordBytes frame ⌝ }
 {
     let offset = four_bytes(frame.offset);

@@ -42,17 +42,17 @@ findFault file k = orElse (openFault file) (cond (ltb k (headerIn file .count)) 
 -- The answer: the record; or the refusal, with a record of zeros.
 pub data FindSaid : Type 0 where
   finds : FrameRecord → FindSaid
-  refused : ℕ → FrameRecord → FindSaid
+  refusesFrame : ℕ → FrameRecord → FindSaid
 
 abbrev pub noRecord : FrameRecord
 noRecord = record { offset = 0; width = 0; height = 0; kind = 0; bits = 0; copies = 0; order = 0 }
 
 abbrev pub findSaid : Found → FindSaid
 findSaid (Frame r) = finds r
-findSaid (Refused r) = refused (numberOf r) noRecord
+findSaid (Refused r) = refusesFrame (numberOf r) noRecord
 
 abbrev pub byFault : ℕ → FrameRecord → FindSaid
-byFault fault r = cond (eqb fault 0) (finds r) (refused fault noRecord)
+byFault fault r = cond (eqb fault 0) (finds r) (refusesFrame fault noRecord)
 
 abbrev pub frameSays : List ℕ → FrameRecord → FindSaid
 frameSays file r = byFault (frameFault file r) r
@@ -64,17 +64,17 @@ findSays file k = byFault (findFault file k) (recordAt file k)
 -- the file's first byte.
 abbrev pub pixelsStart : FindSaid → ℕ
 pixelsStart (finds r) = r .offset
-pixelsStart (refused n r) = 0
+pixelsStart (refusesFrame n r) = 0
 
 abbrev pub pixelsLength : FindSaid → ℕ
 pixelsLength (finds r) = pixelBytes r
-pixelsLength (refused n r) = 0
+pixelsLength (refusesFrame n r) = 0
 
-abbrev pub pixelsOf : List ℕ → ℕ → List ℕ
-pixelsOf file k = take (pixelsLength (findSays file k)) (drop (pixelsStart (findSays file k)) file)
+abbrev pub framePixels : List ℕ → ℕ → List ℕ
+framePixels file k = take (pixelsLength (findSays file k)) (drop (pixelsStart (findSays file k)) file)
 
 -- A part of the file that is frame k's pixels: its bytes, and where it lies in the caller's own memory.
 pub record IsPixels (file : RefT (List ℕ)) (k : ℕ) (part : RefT (List ℕ)) : Type 0 where
-  pub bytes : now part ≡ pixelsOf (now file) k
+  pub bytes : now part ≡ framePixels (now file) k
   pub block : ptr part .0 ≡ ptr file .0
   pub place : ptr part .1 ≡ ptr file .1 + pixelsStart (findSays (now file) k)

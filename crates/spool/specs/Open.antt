@@ -14,11 +14,11 @@ use Rattle.records.specs.Faults.{frameLimit}
 -- The answer: frame count, shop and offset of the table; or the refusal's number alone.
 pub data OpenSaid : Type 0 where
   opens : ℕ → ℕ → ℕ → OpenSaid
-  refused : ℕ → OpenSaid
+  refusesFile : ℕ → OpenSaid
 
 abbrev pub openSaid : Opened → OpenSaid
 openSaid (Spool s) = opens (s .count) (s .shop) (s .table)
-openSaid (Refused r) = refused (numberOf r)
+openSaid (Refused r) = refusesFile (numberOf r)
 
 -- Where the record table ends.
 abbrev pub tableEnd : List ℕ → ℕ
@@ -38,4 +38,4 @@ abbrev pub openSays : List ℕ → OpenSaid
 openSays file =
     cond (eqb (openFault file) 0)
     (opens (headerIn file .count) (headerIn file .shop) (headerIn file .table))
-    (refused (openFault file))
+    (refusesFile (openFault file))

@@ -3,8 +3,6 @@
 use mathlib.Core.Path.{sym, ap, _∙_}
 use borrow.Author.Needs.{needs}
 use Rattle.records.specs.Faults.{checked}
-use Rattle.records.proofs.Sizes.{pixels-small}
-use Rattle.layout.specs.HowLaidOut.{grown}
 use Rattle.layout.proofs.Written.{visit-faulty, visit-sound, visit-refused, visit-refused-at}
 use Rattle.layout.proofs.visit.Statement.{statement}
 use Rattle.layout.proofs.visit.Tie as tie
@@ -24,11 +22,8 @@ enum-told c = search needs
 write-record-requires : tie.Need-write-record-requires
 write-record-requires c κs = search needs
 
-pixel-bytes-requires : tie.Need-pixel-bytes-requires
-pixel-bytes-requires c κs = search needs
-
 grow-requires : tie.Need-grow-requires
-grow-requires c κs = rw (c .pixel-bytes .ensures) (pixels-small (c .before .before .before .before .before .before .before .before .before .before .before .before .args .frame) (search needs) (search needs))
+grow-requires c κs = search needs
 
 enum-told-2 : tie.Need-enum-told-2
 enum-told-2 c = search needs
@@ -44,8 +39,8 @@ same-length c = search needs
 
 returns-2 : tie.Need-returns-2
 returns-2 c =
-    visit-sound (c .before .before .before .before .before .before .before .before .before .before .before .before .before .args .progress) (c .before .before .before .before .before .before .before .before .before .before .before .before .before .args .dst .now) (c .before .before .before .before .before .before .before .before .before .before .before .before .before .args .place) (c .before .before .before .before .before .before .before .before .before .before .before .before .before .args .frame) (c .before .before .before .before .before .before .before .before .before .before .answer .given .1) (ap checked (sym (c .before .before .before .before .before .before .enum-told .given .1)) ∙ c .before .before .before .before .before .before .before .before .check-record .ensures)
-    (c .grow .ensures ∙ ap (grown (c .before .before .before .before .before .before .before .before .before .before .answer .given .0 .0)) (c .before .pixel-bytes .ensures)) (c .before .before .before .before .write-record .ensures)
+    let start = c .before .before .before .before .before .before .before .before .before .before .before .before .args in
+    visit-sound (start .progress) (start .dst .now) (start .place) (start .frame) (c .before .before .before .before .before .before .before .before .before .answer .given .1) (ap checked (sym (c .before .before .before .before .before .enum-told .given .1)) ∙ c .before .before .before .before .before .before .before .check-record .ensures) (c .grow .ensures) (c .before .before .before .write-record .ensures)
 
 returns-3 : tie.Need-returns-3
 returns-3 c = visit-refused (c .before .before .before .args .progress) (c .before .before .before .args .dst .now) (c .before .before .before .args .place) (c .before .before .before .args .frame) (c .enum-told2 .given .1)
@@ -62,7 +57,6 @@ visit-spec =
     enum-known-refusal
     enum-told
     write-record-requires
-    pixel-bytes-requires
     grow-requires
     enum-told-2
     enum-told-3

@@ -5,7 +5,7 @@ use lib.ListN.{length, take, drop}
 use native.Mathlib.Omega.{arith}
 use mathlib.Core.Path.{sym, _∙_}
 use borrow.Author.Tests.{not-true, not-false}
-use Rattle.records.specs.Layout.{recordBytes}
+use Rattle.records.specs.Layout.{recordBytes, headerSize, recordSize}
 use Rattle.layout.specs.LayOut.{withOffset}
 use Rattle.layout.proofs.Written.{copied, put-there, not-writing, past-limit, past-length, no-room, in-place}
 use borrow.Author.Needs.{needs}
@@ -60,9 +60,9 @@ same-length c = search needs
 returns-5 : tie.Need-returns-5
 returns-5 c =
     let at = c .before .before .before .before .before .before .before .before .before .before .before .args in
-    let bytes = copied (take (length (at .dst .now) - (12 + 16 * at .place)) (drop (12 + 16 * at .place) (at .dst .now))) (c .before .before .before .before .before .record-bytes .ensures) (c .before .before .copy .ensures .1) in
+    let bytes = copied (take (length (at .dst .now) - (headerSize + recordSize * at .place)) (drop (headerSize + recordSize * at .place) (at .dst .now))) (c .before .before .before .before .before .record-bytes .ensures) (c .before .before .copy .ensures .1) in
     rw (not-false (c .before .before .before .before .before .before .before .before .before .before .before .args .writing) (c .before .before .before .before .before .before .before .before .before .if1 .left))
-    (put-there (at .dst .now) (recordBytes (withOffset (at .end) (at .frame))) (c .before .before .copy .last .1 .0) (12 + 16 * at .place) 16 (omega arith) bytes
+    (put-there (at .dst .now) (recordBytes (withOffset (at .end) (at .frame))) (c .before .before .copy .last .1 .0) (headerSize + recordSize * at .place) recordSize (omega arith) bytes
     ∙ sym (in-place (at .place) (at .end) (at .frame) (at .dst .now) (c .before .before .before .before .before .before .before .before .if2 .left) (c .before .before .before .before .before .before .before .if3 .left) (c .before .before .before .before .before .before .if4 .left)))
 
 pub write-record-spec : {M : Type 1} → statement M

@@ -3,7 +3,7 @@
 use Prim.Native.Nat.{_+_, _/_, _%_}
 use mathlib.Core.Path.{sym, ap, _∙_}
 use mathlib.Core.List.{[], _∷_}
-use Rattle.listing.specs.Text.{decimal, Buffer, put, written}
+use Rattle.listing.specs.Text.{decimal, Buffer, put, putText}
 use Rattle.listing.proofs.Texts.{written-append, one-digit, more-digits}
 use borrow.Author.Needs.{needs}
 use Prim.Native.Nat.{ℕ, _<_}
@@ -65,10 +65,10 @@ put-number-returns : (t : ℕ) → put-number-lts.Need-returns (
   put-number-below t,
   put-number.Post,
 ) (put-number-at t) put-number.Post
-unfolding written
+unfolding putText
 put-number-returns t c =
     let at = c .before .before .before .before .before .before .args in
-    c .before .before .put-byte .ensures ∙ ap (written (record { bytes = at .out .now; at = at .at })) (sym (one-digit (at .n) (search needs)))
+    c .before .before .put-byte .ensures ∙ ap (putText (record { bytes = at .out .now; at = at .at })) (sym (one-digit (at .n) (search needs)))
 
 put-number-put-number-requires : (t : ℕ) → put-number-lts.Need-put-number-requires (
   put-byte-reads.Asked,
@@ -100,7 +100,7 @@ put-number-returns-2 : (t : ℕ) → put-number-lts.Need-returns-2 (
   put-number-below t,
   put-number.Post,
 ) (put-number-at t) put-number.Post
-unfolding written
+unfolding putText
 put-number-returns-2 t c =
     let at = c .before .before .before .before .before .before .before .before .before .before .args in
     let b : Buffer = record { bytes = at .out .now; at = at .at } in
@@ -108,7 +108,7 @@ put-number-returns-2 t c =
     c .before .before .put-byte2 .ensures
     ∙ ap (λ (z : Buffer). put z last) (c .before .before .before .before .before .before .put-number .ensures)
     ∙ sym (written-append b (decimal (at .n / 10)) (last ∷ []))
-    ∙ ap (written b) (sym (more-digits (at .n) (search needs)))
+    ∙ ap (putText b) (sym (more-digits (at .n) (search needs)))
 
 pub +put-number-spec : {M : Type 1} → statement M
 +put-number-spec = close μ-put-number λ t. put-number-lts.spec (

@@ -2,7 +2,7 @@
 -- Assumes nothing.
 use mathlib.Core.List.{[], _∷_}
 use borrow.Author.Needs.{needs}
-use Rattle.listing.specs.Text.{decimal, Buffer, written}
+use Rattle.listing.specs.Text.{decimal, Buffer, putText}
 use Rattle.listing.proofs.Texts.{text-then}
 use Rattle.listing.proofs.put_field.Statement.{statement}
 use Rattle.listing.proofs.put_field.Tie as tie
@@ -17,7 +17,7 @@ same-length : tie.Need-same-length
 same-length c = search needs
 
 returns : tie.Need-returns
-unfolding written
+unfolding putText
 returns c =
     let at = c .before .before .before .before .before .before .before .before .before .args in
     let b : Buffer = record { bytes = at .out .now; at = at .at } in

@@ -6,7 +6,7 @@ use mathlib.Core.Logic.{⊎-elim}
 use mathlib.Core.Path.{_≡_, sym, _∙_}
 use lib.ListN.{length, drop}
 use borrow.Author.Needs.{needs}
-use Rattle.listing.specs.Text.{Buffer, written}
+use Rattle.listing.specs.Text.{Buffer, putText}
 use Rattle.listing.specs.Listing.{fields}
 use Rattle.listing.proofs.Texts.{field-then}
 use Rattle.listing.proofs.Lines.{field-more, field-last, no-fields-left}
@@ -17,7 +17,7 @@ abbrev Inv-loop : tie.InvT-loop
 Inv-loop out₀ at numbers next₀ i₀ out next i =
     (i ≤ length numbers)
     × (length out ≡ length out₀)
-    × (written (record { bytes = out; at = next }) (fields (drop i numbers)) ≡ written (record { bytes = out₀; at = at }) (fields numbers))
+    × (putText (record { bytes = out; at = next }) (fields (drop i numbers)) ≡ putText (record { bytes = out₀; at = at }) (fields numbers))
 
 abbrev μ-loop : tie.MeasureT-loop
 μ-loop out₀ at numbers next₀ i₀ out next i = length numbers - i

@@ -7,7 +7,7 @@ use borrow.Author.Needs.{needs}
 use Rattle.refusal.specs.Refusals.{numberOf}
 use Rattle.spool.specs.declared.Found.{Found}
 use Rattle.spool.specs.Find.{findSaid}
-use Rattle.listing.specs.Text.{Buffer, written}
+use Rattle.listing.specs.Text.{Buffer, putText}
 use Rattle.listing.specs.Listing.{refusedWord, fields, line}
 use Rattle.listing.proofs.Texts.{field-then}
 use Rattle.listing.proofs.put_line.Statement.{statement}
@@ -38,7 +38,7 @@ returns : tie.Need-returns
 returns c =
     let at = c .before .before .before .before .before .before .before .before .args in
     let b : Buffer = record { bytes = at .out .now; at = at .at } in
-    c .before .before .put-frame .ensures ∙ ap (λ (f : Found). written b (line (at .frame) (findSaid f))) (sym (c .before .before .before .before .before .found .given .1))
+    c .before .before .put-frame .ensures ∙ ap (λ (f : Found). putText b (line (at .frame) (findSaid f))) (sym (c .before .before .before .before .before .found .given .1))
 
 same-length-2 : tie.Need-same-length-2
 same-length-2 c = search needs
@@ -50,8 +50,8 @@ returns-2 c =
     let b1 : Buffer = record { bytes = c .before .before .before .before .before .before .before .put-field .last .0; at = c .before .before .before .before .before .before .before .put-field .result } in
     let why = numberOf (c .before .before .before .before .before .before .before .before .before .before .found2 .given .0 .0) in
     field-then b (at .frame) 32 (refusedWord ++ fields (why ∷ [])) (c .before .before .before .before .before .before .before .put-field .ensures)
-    (c .before .before .put-refusal .ensures ∙ ap (λ (n : ℕ). written b1 (refusedWord ++ fields (n ∷ []))) (c .before .before .before .number .ensures))
-    ∙ ap (λ (f : Found). written b (line (at .frame) (findSaid f))) (sym (c .before .before .before .before .before .before .before .before .before .before .found2 .given .1))
+    (c .before .before .put-refusal .ensures ∙ ap (λ (n : ℕ). putText b1 (refusedWord ++ fields (n ∷ []))) (c .before .before .before .number .ensures))
+    ∙ ap (λ (f : Found). putText b (line (at .frame) (findSaid f))) (sym (c .before .before .before .before .before .before .before .before .before .before .found2 .given .1))
 
 pub put-line-spec : {M : Type 1} → statement M
 put-line-spec =

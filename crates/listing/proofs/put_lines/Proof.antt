@@ -7,7 +7,7 @@ use native.Mathlib.Omega.{arith}
 use mathlib.Core.Path.{_≡_, refl, sym, ap, _∙_}
 use lib.ListN.{length}
 use Rattle.frames.proofs.Advance.{goes-on}
-use Rattle.listing.specs.Text.{Buffer, written}
+use Rattle.listing.specs.Text.{Buffer, putText}
 use Rattle.listing.specs.Listing.{lines}
 use Rattle.listing.proofs.Lines.{one-more, none-left}
 use Rattle.listing.proofs.put_lines.Statement.{statement}
@@ -17,7 +17,7 @@ abbrev Inv-loop : tie.InvT-loop
 Inv-loop file count out₀ at next₀ frame₀ out next frame =
     (frame ≤ count)
     × (length out ≡ length out₀)
-    × (written (record { bytes = out; at = next }) (lines file (count - frame) frame) ≡ written (record { bytes = out₀; at = at }) (lines file count 0))
+    × (putText (record { bytes = out; at = next }) (lines file (count - frame) frame) ≡ putText (record { bytes = out₀; at = at }) (lines file count 0))
 
 abbrev μ-loop : tie.MeasureT-loop
 μ-loop file count out₀ at next₀ frame₀ out next frame = count - frame
@@ -25,7 +25,7 @@ abbrev μ-loop : tie.MeasureT-loop
 loop-holds : tie.Need-loop-holds Inv-loop μ-loop
 loop-holds c =
     let at = c .before .before .args in
-    (search needs, refl, ap (λ (n : ℕ). written (record { bytes = at .out .now; at = at .at }) (lines (at .file .now) n 0)) (sub-zero (at .count)))
+    (search needs, refl, ap (λ (n : ℕ). putText (record { bytes = at .out .now; at = at .at }) (lines (at .file .now) n 0)) (sub-zero (at .count)))
 
 step-from-requires : tie.Need-step-from-requires Inv-loop μ-loop
 step-from-requires c κs = search needs

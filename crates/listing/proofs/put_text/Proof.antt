@@ -4,7 +4,7 @@ use Prim.Native.Nat.{_+_, _-_, _≤_, _<_}
 use mathlib.Core.Path.{_≡_, sym, ap, _∙_}
 use lib.ListN.{length, drop}
 use borrow.Author.Needs.{needs}
-use Rattle.listing.specs.Text.{Buffer, written}
+use Rattle.listing.specs.Text.{Buffer, putText}
 use Rattle.listing.proofs.Texts.{one-more, none-left}
 use Rattle.listing.proofs.put_text.Statement.{statement}
 use Rattle.listing.proofs.put_text.Tie as tie
@@ -13,7 +13,7 @@ abbrev Inv-loop : tie.InvT-loop
 Inv-loop out₀ at text next₀ i₀ out next i =
     (i ≤ length text)
     × (length out ≡ length out₀)
-    × (written (record { bytes = out; at = next }) (drop i text) ≡ written (record { bytes = out₀; at = at }) text)
+    × (putText (record { bytes = out; at = next }) (drop i text) ≡ putText (record { bytes = out₀; at = at }) text)
 
 abbrev μ-loop : tie.MeasureT-loop
 μ-loop out₀ at text next₀ i₀ out next i = length text - i
@@ -41,7 +41,7 @@ loop-again c =
     let b : Buffer = record { bytes = loop .out; at = loop .next } in (
       search needs,
       search needs,
-      ap (λ (z : Buffer). written z (drop (loop .i + 1) (at .text .now))) (c .before .before .put-byte .ensures)
+      ap (λ (z : Buffer). putText z (drop (loop .i + 1) (at .text .now))) (c .before .before .put-byte .ensures)
           ∙ sym (one-more (at .text .now) (loop .i) b less)
           ∙ loop .inv .2,
     )

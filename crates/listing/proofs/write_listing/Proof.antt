@@ -6,7 +6,7 @@ use mathlib.Core.List.{[], _∷_, _++_}
 use borrow.Author.Needs.{needs}
 use Rattle.spool.specs.Open.{openSaid}
 use Rattle.spool.proofs.FindFaults.{opened}
-use Rattle.listing.specs.Text.{Buffer, written}
+use Rattle.listing.specs.Text.{Buffer, putText}
 use Rattle.listing.specs.Listing.{heading, refusedWord, fields, lines, listing}
 use Rattle.listing.proofs.Texts.{text-then}
 use Rattle.listing.proofs.Fits.{answers}
@@ -29,8 +29,8 @@ returns c =
     let b : Buffer = record { bytes = at .out .now; at = 0 } in
     answers (at .file .now) (at .out .now) (λ i. c .before .before .before .before .before .before .before .shared-slice-known .given i .fits) _
     (c .before .before .put-refusal .ensures
-    ∙ ap (λ (n : ℕ). written b (refusedWord ++ fields (n ∷ []))) (c .before .before .before .number .ensures)
-    ∙ ap (written b) (sym (too-long (at .file .now) (c .before .before .before .before .before .if1 .taken))))
+    ∙ ap (λ (n : ℕ). putText b (refusedWord ++ fields (n ∷ []))) (c .before .before .before .number .ensures)
+    ∙ ap (putText b) (sym (too-long (at .file .now) (c .before .before .before .before .before .if1 .taken))))
 
 open-requires : tie.Need-open-requires
 open-requires c κs = search needs
@@ -71,8 +71,8 @@ returns-2 c =
     let said = ap openSaid (sym (c .before .before .before .before .before .before .why .given .1)) ∙ c .before .before .before .before .before .before .before .before .«open» .ensures in
     answers (at .file .now) (at .out .now) (λ i. c .before .before .before .before .before .before .before .before .before .before .before .shared-slice-known .given i .fits) _
     (c .before .before .put-refusal2 .ensures
-    ∙ ap (λ (n : ℕ). written b (refusedWord ++ fields (n ∷ []))) (c .before .before .before .number2 .ensures)
-    ∙ ap (written b) (sym (by-answer (at .file .now) _ (c .before .before .before .before .before .before .before .before .before .if1 .left) said)))
+    ∙ ap (λ (n : ℕ). putText b (refusedWord ++ fields (n ∷ []))) (c .before .before .before .number2 .ensures)
+    ∙ ap (putText b) (sym (by-answer (at .file .now) _ (c .before .before .before .before .before .before .before .before .before .if1 .left) said)))
 
 same-length-3 : tie.Need-same-length-3
 same-length-3 c = search needs
@@ -85,7 +85,7 @@ returns-3 c =
     let said = ap openSaid (sym (c .before .before .before .before .before .before .before .before .before .before .before .contents .given .1)) ∙ c .before .before .before .before .before .before .before .before .before .before .before .before .before .«open» .ensures in
     answers (at .file .now) (at .out .now) (λ i. c .before .before .before .before .before .before .before .before .before .before .before .before .before .before .before .before .shared-slice-known .given i .fits) _
     (text-then b heading (lines (at .file .now) count 0) (c .before .before .before .before .before .before .before .put-text .ensures) (c .before .before .put-lines .ensures)
-    ∙ ap (written b) (sym (by-answer (at .file .now) _ (c .before .before .before .before .before .before .before .before .before .before .before .before .before .before .if1 .left) said)))
+    ∙ ap (putText b) (sym (by-answer (at .file .now) _ (c .before .before .before .before .before .before .before .before .before .before .before .before .before .before .if1 .left) said)))
 
 pub write-listing-spec : {M : Type 1} → statement M
 write-listing-spec =

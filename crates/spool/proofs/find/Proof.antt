@@ -4,7 +4,7 @@ use Prim.Native.Nat.{_+_, _*_, _<_}
 use native.Mathlib.Omega.{arith}
 use mathlib.Core.Path.{subst, _∙_}
 use lib.ListN.{length}
-use Rattle.records.specs.Layout.{ReadsRecord}
+use Rattle.records.specs.Layout.{ReadsRecord, recordSize}
 use Rattle.spool.proofs.FindFaults.{opened, record-inside, record-there, shut-spool, no-such-frame, by-record}
 use borrow.Author.Needs.{needs}
 use Rattle.spool.proofs.find.Statement.{statement}
@@ -56,14 +56,14 @@ returns-3 : tie.Need-returns-3
 returns-3 c =
     let at = c .before .before .before .before .before .before .before .before .before .before .before .before .before .args in
     let spool = opened (at .file .now) (c .before .before .before .before .before .before .before .before .before .contents .given .1) (c .before .before .before .before .before .before .before .before .before .before .before .«open» .ensures) in
-    let read = subst (ReadsRecord (at .file .now) (c .before .before .before .before .before .before .before .before .before .contents .given .0 .0 .table + 16 * at .number)) (c .before .before .frame .given .1) (c .before .before .before .before .read-record .ensures) in
+    let read = subst (ReadsRecord (at .file .now) (c .before .before .before .before .before .before .before .before .before .contents .given .0 .0 .table + recordSize * at .number)) (c .before .before .frame .given .1) (c .before .before .before .before .read-record .ensures) in
     c .frame-of .ensures ∙ by-record (at .file .now) (at .number) (spool .0) (omega arith) (record-there (at .file .now) (at .number) (c .before .before .before .before .before .before .before .before .before .contents .given .0 .0 .table) (spool .2) (read .1))
 
 returns-4 : tie.Need-returns-4
 returns-4 c =
     let at = c .before .before .before .before .before .before .before .before .before .before .before .args in
     let spool = opened (at .file .now) (c .before .before .before .before .before .before .before .contents .given .1) (c .before .before .before .before .before .before .before .before .before .«open» .ensures) in
-    let short : length (at .file .now) < c .before .before .before .before .before .before .before .contents .given .0 .0 .table + 16 * at .number + 16 = subst (ReadsRecord (at .file .now) (c .before .before .before .before .before .before .before .contents .given .0 .0 .table + 16 * at .number)) (c .enum-told .given .1) (c .before .before .read-record .ensures) in
+    let short : length (at .file .now) < c .before .before .before .before .before .before .before .contents .given .0 .0 .table + recordSize * at .number + recordSize = subst (ReadsRecord (at .file .now) (c .before .before .before .before .before .before .before .contents .given .0 .0 .table + recordSize * at .number)) (c .enum-told .given .1) (c .before .before .read-record .ensures) in
     let room = record-inside (at .file .now) (at .number) (spool .0) (omega arith) in
     absurd (omega arith)
 

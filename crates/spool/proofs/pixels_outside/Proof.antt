@@ -1,11 +1,11 @@
 -- `spool::pixels_outside` meets its contract.
 -- Assumes nothing.
-use Prim.Native.Nat.{_*_, _≤_}
+use Prim.Native.Nat.{_≤_}
 use native.Mathlib.Omega.{arith}
 use borrow.Author.Tests.{lt-ltb, le-ltb}
 use borrow.Author.Needs.{needs}
 use Rattle.spool.specs.Find.{pixelsOutside}
-use Rattle.records.proofs.Sizes.{pixels-small}
+use Rattle.records.proofs.Sizes.{mostPixelBytes, pixels-small}
 use Rattle.spool.proofs.pixels_outside.Statement.{statement}
 use Rattle.spool.proofs.pixels_outside.Tie as tie
 
@@ -21,7 +21,7 @@ pixel-bytes-requires c κs = search needs
 
 add-result : tie.Need-add-result
 add-result c =
-    let size : c .pixel-bytes .result ≤ 65535 * 65535 * 6 =
+    let size : c .pixel-bytes .result ≤ mostPixelBytes =
     rw (c .pixel-bytes .ensures) (pixels-small (c .before .before .before .before .args .frame) (search needs) (search needs)) in
     omega arith
 

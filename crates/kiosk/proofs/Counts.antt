@@ -16,8 +16,8 @@ use Rattle.samples.specs.Samples.{place, pixelSize, samplesOf}
 use Rattle.samples.specs.Faults.{wideCoding, fault, decides, samplesSay, inOrder, sourceSays}
 use Rattle.esrgb.specs.Depths.{greatest}
 use Rattle.picture.specs.declared.Conversion.{Conversion}
-use Rattle.picture.specs.Forms.{codingOf, wideForm, source, target, offers}
-use Rattle.picture.specs.Convert.{convertSays}
+use Rattle.picture.specs.Forms.{codingOf, wideForm}
+use Rattle.picture.specs.Convert.{source, target, offers, convertSays}
 use Rattle.transfer.specs.Light.{offersLight}
 use Rattle.linear.specs.Operations.{codesToLightSays, lightToCodesSays}
 use Rattle.records.specs.declared.FrameRecord.{FrameRecord}

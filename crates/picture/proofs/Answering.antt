@@ -11,8 +11,7 @@ use Rattle.samples.specs.Faults.{sourceSays}
 use Rattle.samples.proofs.Order.{source-exact}
 use Rattle.picture.specs.declared.Conversion.{Conversion}
 use Rattle.picture.specs.declared.Work.{Work}
-use Rattle.picture.specs.Forms.{offers}
-use Rattle.picture.specs.Convert.{convertSays, converted, convertBytes}
+use Rattle.picture.specs.Convert.{offers, convertSays, converted, convertBytes}
 use Rattle.picture.specs.HowConverted.{writesWide, made, Plans}
 
 -- What is left does not depend on what would be written, unless it is accepted.

@@ -1,6 +1,7 @@
 -- Convert (rules, section 4): what it answers, and every byte that it leaves in the destination, for any source and any destination.
 -- Assumes nothing.
 use Prim.Native.Nat.{ℕ, _*_}
+use mathlib.Core.Bool.{Bool, _&&_}
 use mathlib.Core.List.{List, map}
 use lib.ListN.{length}
 use Rattle.refusal.specs.Answers.{Said, leaves}
@@ -11,18 +12,36 @@ use Rattle.esrgb.specs.Codes.{fromSrgb, toSrgb, changeDepth}
 use Rattle.lumachroma.specs.LumaChroma.{toLumaChroma, toRgb}
 use Rattle.picture.specs.declared.Conversion.{Conversion}
 use Rattle.picture.specs.declared.Conversion.the-variants.{FromSrgb, ToSrgb, ChangeDepth, ToLumaChroma, FromLumaChroma}
-use Rattle.picture.specs.Forms.{codingOf, wideForm, pixelsIn, source, target, offers}
+use Rattle.picture.specs.Forms.{Form, srgb, esrgb, lumaChroma, codingOf, wideForm, pixelsIn, offersForm}
 
--- What a conversion does to one pixel (rule 4.1).
+-- Rule 4.1, a row for each conversion: what it reads, what it writes, and what it does to one pixel.
+pub record Row : Type 0 where
+  pub reads : Form
+  pub writes : Form
+  pub does : Pixel → Pixel
+
 abbrev pub each : (ℕ → ℕ) → Pixel → Pixel
 each f p = pixel (f (p .first)) (f (p .second)) (f (p .third))
 
+abbrev pub row : Conversion → Row
+row (FromSrgb n) = record { reads = srgb; writes = esrgb n; does = each (fromSrgb n) }
+row (ToSrgb n) = record { reads = esrgb n; writes = srgb; does = each (toSrgb n) }
+row (ChangeDepth n m) = record { reads = esrgb n; writes = esrgb m; does = each (changeDepth n m) }
+row (ToLumaChroma n) = record { reads = esrgb n; writes = lumaChroma n; does = toLumaChroma n }
+row (FromLumaChroma n) = record { reads = lumaChroma n; writes = esrgb n; does = toRgb n }
+
+abbrev pub source : Conversion → Form
+source c = row c .reads
+
+abbrev pub target : Conversion → Form
+target c = row c .writes
+
 abbrev pub pixelOf : Conversion → Pixel → Pixel
-pixelOf (FromSrgb n) = each (fromSrgb n)
-pixelOf (ToSrgb n) = each (toSrgb n)
-pixelOf (ChangeDepth n m) = each (changeDepth n m)
-pixelOf (ToLumaChroma n) = toLumaChroma n
-pixelOf (FromLumaChroma n) = toRgb n
+pixelOf c = row c .does
+
+-- Rule 4.2, 9: every depth named must be offered.
+abbrev pub offers : Conversion → Bool
+offers c = offersForm (source c) && offersForm (target c)
 
 -- The length that the destination of a source needs (rule 4.2, 11).
 abbrev pub needed : Conversion → List ℕ → ℕ

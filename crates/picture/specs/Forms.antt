@@ -1,7 +1,7 @@
--- What a pixel buffer holds, and what each conversion reads and writes (rule 4.1).
+-- What a pixel buffer holds: the forms of rule 4.1.
 -- Assumes nothing.
 use Prim.Native.Nat.{ℕ, _/_}
-use mathlib.Core.Bool.{Bool, true, false, _&&_}
+use mathlib.Core.Bool.{Bool, true, false}
 use mathlib.Core.List.{List}
 use lib.ListN.{length}
 use Rattle.samples.specs.declared.Coding.{Coding}
@@ -9,8 +9,6 @@ use Rattle.samples.specs.declared.Coding.the-variants.{Bytes, Codes}
 use Rattle.samples.specs.Samples.{pixelSize}
 use Rattle.samples.specs.Faults.{wideCoding}
 use Rattle.esrgb.specs.Depths.{offered, greatest}
-use Rattle.picture.specs.declared.Conversion.{Conversion}
-use Rattle.picture.specs.declared.Conversion.the-variants.{FromSrgb, ToSrgb, ChangeDepth, ToLumaChroma, FromLumaChroma}
 
 -- 8-bit sRGB, e-sRGB of a depth, or luma and chroma of a depth.
 pub data Form : Type 0 where
@@ -36,25 +34,8 @@ wideForm form = wideCoding (codingOf form)
 abbrev pub pixelsIn : Form → List ℕ → ℕ
 pixelsIn form bytes = length bytes / pixelSize (wideForm form)
 
-abbrev pub source : Conversion → Form
-source (FromSrgb n) = srgb
-source (ToSrgb n) = esrgb n
-source (ChangeDepth n m) = esrgb n
-source (ToLumaChroma n) = esrgb n
-source (FromLumaChroma n) = lumaChroma n
-
-abbrev pub target : Conversion → Form
-target (FromSrgb n) = esrgb n
-target (ToSrgb n) = srgb
-target (ChangeDepth n m) = esrgb m
-target (ToLumaChroma n) = lumaChroma n
-target (FromLumaChroma n) = esrgb n
-
--- Rule 4.2, 9: every depth named must be offered.
+-- Rule 4.2, 9: is the depth of a form offered?
 abbrev pub offersForm : Form → Bool
 offersForm srgb = true
 offersForm (esrgb n) = offered n
 offersForm (lumaChroma n) = offered n
-
-abbrev pub offers : Conversion → Bool
-offers c = offersForm (source c) && offersForm (target c)

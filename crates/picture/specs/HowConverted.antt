@@ -20,8 +20,8 @@ use Rattle.picture.specs.declared.Work.{Work}
 use Rattle.picture.specs.declared.Work.the-variants.{Widen, Narrow, Change, Pixels}
 use Rattle.picture.specs.declared.Plan.{Plan}
 use Rattle.picture.specs.declared.Plan.the-variants.{Run, NotOffered}
-use Rattle.picture.specs.Forms.{codingOf, wideForm, source, target, offers}
-use Rattle.picture.specs.Convert.{converted}
+use Rattle.picture.specs.Forms.{codingOf, wideForm}
+use Rattle.picture.specs.Convert.{source, target, offers, converted}
 
 -- What a rule does to a pixel.
 abbrev pub pixelApplied : PixelRule → Pixel → Pixel

@@ -19,8 +19,8 @@ use Rattle.esrgb.proofs.Scale.{scale-of}
 use Rattle.esrgb.proofs.Eight.{from-srgb-code, to-srgb-byte}
 use Rattle.picture.specs.declared.Conversion.{Conversion}
 use Rattle.picture.specs.declared.Conversion.the-variants.{FromSrgb, ToSrgb, ToLumaChroma, FromLumaChroma}
-use Rattle.picture.specs.Forms.{Form, srgb, esrgb, lumaChroma, bitsOf, codingOf, wideForm, pixelsIn, source, target, offersForm}
-use Rattle.picture.specs.Convert.{pixelOf, needed, converted}
+use Rattle.picture.specs.Forms.{Form, srgb, esrgb, lumaChroma, bitsOf, codingOf, wideForm, pixelsIn, offersForm}
+use Rattle.picture.specs.Convert.{source, target, pixelOf, needed, converted}
 use Rattle.roundtrip.specs.Pictures.{first, second, third, pixelAt, Picture}
 use Rattle.roundtrip.specs.Calls.{Call}
 use Rattle.roundtrip.proofs.Pixel.{Codes, channel-of-each, ycc-codes, ycc-chroma, back-codes}

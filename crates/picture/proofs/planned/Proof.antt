@@ -1,11 +1,11 @@
 -- `picture::planned` meets its contract: in each arm the conversion and its depths are known, and the loop is the one that does it.
 -- Assumes nothing.
+use Rattle.picture.specs.Convert.{offers}
 use mathlib.Core.Path.{_≡_, refl, ap, ap₂, subst, _∙_}
 use Rattle.numbers.proofs.Booleans.{and-false}
 use Rattle.esrgb.specs.Depths.{bits, offered, Names}
 use Rattle.picture.specs.declared.Conversion.the-variants.{FromSrgb, ToSrgb, ChangeDepth, ToLumaChroma, FromLumaChroma}
 use Rattle.picture.specs.declared.Work.the-variants.{Widen, Narrow, Change}
-use Rattle.picture.specs.Forms.{offers}
 use Rattle.picture.proofs.Planning.{same-plan, plan-from-srgb, plan-to-srgb, plan-change, plan-to-luma-chroma, plan-from-luma-chroma}
 use borrow.Author.Needs.{needs}
 use Rattle.picture.proofs.planned.Statement.{statement}

@@ -7,7 +7,7 @@ use outside::{sound_record, Random};
 use reference::spool::{lay_out, listing, Record};
 use std::fs::{self, File};
 use std::path::Path;
-use std::process::Command;
+use std::process::{Command, Stdio};
 
 /// Files, under the line that stands over each listing in listings.txt.
 const SAMPLES: [(&str, &[u8]); 7] = [
@@ -59,12 +59,15 @@ fn fullest() -> Vec<u8> {
     file
 }
 
+fn program() -> Command {
+    Command::new(Path::new(env!("CARGO_MANIFEST_DIR")).join("../../target/bin/list"))
+}
+
 /// What `list` prints for a file, which is put under a name; the library and the reference say the same.
 fn list(file: &[u8], name: &str) -> String {
     let input = Path::new(env!("CARGO_TARGET_TMPDIR")).join(name);
     fs::write(&input, file).expect("room for a file");
-    let program = Path::new(env!("CARGO_MANIFEST_DIR")).join("../../target/bin/list");
-    let ran = Command::new(program)
+    let ran = program()
         .stdin(File::open(&input).expect("the file that was written"))
         .output()
         .expect("target/bin/list");
@@ -152,4 +155,22 @@ fn limits() {
         let refusal = if length <= 65_536 { 2 } else { 15 };
         assert_eq!(list(&file, "long"), format!("refused {refusal}\n"));
     }
+}
+
+/// Input that cannot be read prints no listing, and neither goes unsaid on standard error. A program in
+/// Rattle has no exit status to tell it by.
+#[test]
+fn what_cannot_be_read_or_written_is_said() {
+    let folder = File::open(env!("CARGO_TARGET_TMPDIR")).expect("a folder");
+    let ran = program().stdin(folder).output().expect("target/bin/list");
+    assert!(ran.stdout.is_empty());
+    assert_eq!(ran.stderr, b"list: standard input cannot be read\n");
+
+    let full = File::options().write(true).open("/dev/full");
+    let ran = program()
+        .stdin(Stdio::null())
+        .stdout(full.expect("a device that is always full"))
+        .output()
+        .expect("target/bin/list");
+    assert_eq!(ran.stderr, b"list: standard output cannot be written\n");
 }

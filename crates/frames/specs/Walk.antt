@@ -4,19 +4,21 @@ use Prim.Native.Nat.{ℕ, _+_}
 use mathlib.Core.Bool.{cond}
 use mathlib.Core.List.{List}
 use mathlib.Core.Path.{_≡_}
-use lib.Dec.{leb}
+use lib.Dec.{ltb}
 use denote.Ref.{RefT, now}
 use Rattle.frames.specs.declared.Frames.{Frames}
 use Rattle.frames.specs.declared.Stepped.{Stepped}
-use Rattle.spool.specs.Find.{FindSaid, finds, refusesFrame, findSaid, findSays, IsPixels}
+use Rattle.spool.specs.Find.{findSaid, findSays, IsPixels}
+use Rattle.spool.specs.Open.{OpenSaid, opens, refusesFile, openSays}
 
--- The number after a step, by what Find answers: it stays after 1 to 5 and else grows by one.
-abbrev pub moved : FindSaid → ℕ → ℕ
-moved (finds r) k = k + 1
-moved (refusesFrame n r) k = cond (leb n 5) k (k + 1)
+-- The number after a step: it stays if the file does not open or has no such frame, and else grows by one, whatever Find says of the
+-- frame.
+abbrev pub movedBy : OpenSaid → ℕ → ℕ
+movedBy (opens count shop table) k = cond (ltb k count) (k + 1) k
+movedBy (refusesFile n) k = k
 
 abbrev pub nextNumber : List ℕ → ℕ → ℕ
-nextNumber file k = moved (findSays file k) k
+nextNumber file k = movedBy (openSays file) k
 
 -- A walk at its start, and after a step.
 abbrev pub started : RefT (List ℕ) → Frames

@@ -1,11 +1,28 @@
 // The frames of a spool one after another (rule 7.7): document 01's walker. It promises that each step
 // gives what finding the frame gives, and the number of the frame to come; it asks nothing of a caller.
 use spool::Found;
+use spool::Opened;
 use spool::find;
+use spool::open;
 use spool::pixels;
 ghost use mathlib.Core.Path.{_≡_};
 ghost use Rattle.spool.specs.Find.{findSaid, findSays};
 ghost use Rattle.frames.specs.Walk.{nextNumber, started, IsStep};
+
+// The number after a step: it stays if the file does not open or has no such frame.
+fn next_number(file: &[u8], number: usize) -> usize
+    ensures { λ r. ⌜ r ≡ nextNumber (now (file .entry)) number ⌝ }
+{
+    match open(file) {
+        Opened::Spool(contents) => {
+            if number < contents.count as usize {
+                return number + 1;
+            }
+            number
+        }
+        Opened::Refused(_) => number,
+    }
+}
 
 // What is found at a number, and the number of the frame to look for next.
 pub struct Visit {
@@ -13,29 +30,13 @@ pub struct Visit {
     pub next: usize,
 }
 
-// One step from a number. The number stays if the file does not open or has no such frame.
+// One step from a number.
 fn visit_at(file: &[u8], number: usize) -> Visit
     ensures { λ r. ⌜ (findSaid (r .found) ≡ findSays (now (file .entry)) number) × (r .next ≡ nextNumber (now (file .entry)) number) ⌝ }
 {
     let found = find(file, number);
-    match found {
-        Found::Frame(_) => Visit {
-            found,
-            next: number + 1,
-        },
-        Found::Refused(why) => {
-            if refusal::number(why) <= 5 {
-                return Visit {
-                    found,
-                    next: number,
-                };
-            }
-            Visit {
-                found,
-                next: number + 1,
-            }
-        }
-    }
+    let next = next_number(file, number);
+    Visit { found, next }
 }
 
 // A walk over the frames of a spool: the file, and the number of the frame to come.

@@ -9,7 +9,7 @@ use native.Mathlib.Omega.{arith}
 use lib.Dec.{eqb, ltb, lit<}
 use borrow.Author.Tests.{ltb-false}
 use lib.ListN.{length}
-use Rattle.refusal.specs.Answers.{Verdict, sound, faulty, Said, accepted, refused, refusedAt}
+use Rattle.refusal.specs.Answers.{Verdict, sound, faulty, Said, accepted, refused}
 use Rattle.samples.specs.declared.Coding.{Coding}
 use Rattle.samples.specs.declared.Coding.the-variants.{Codes}
 use Rattle.samples.specs.Samples.{place, pixelSize, samplesOf}
@@ -73,15 +73,11 @@ pub frame-counts : (r : FrameRecord) → r .width < 2 ^ 16 → r .height < 2 ^ 1
 frame-counts r w h = lt-of-le-of-lt (pixels-small r w h) (lit< tt)
 
 -- ---- laying out
-picked : (b : Bool) (s : Said) (k at : ℕ) → Countable s → Countable (cond b s (refusedAt k at))
-picked true s k at h = h
-picked false s k at h = tt
-
 module _ (done : Said) (h : Countable done) where
   records-say : (at : ℕ) (rs : List FrameRecord) → Countable (recordsSay done at rs)
   unfolding recordsSay
   records-say at [] = h
-  records-say at (r ∷ rs) = picked (eqb (recordFault r) 0) (recordsSay done (at + 1) rs) (recordFault r) at (records-say (at + 1) rs)
+  records-say at (r ∷ rs) = decided (recordFault r) at (recordsSay done (at + 1) rs) (records-say (at + 1) rs)
 
 totals : (a b : Bool) (total : ℕ) → ltb lengthLimit total ≡ a → Countable (cond a (refused 14) (cond b (accepted total) (refused 11)))
 totals true b total e = tt

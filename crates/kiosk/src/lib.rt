@@ -11,6 +11,7 @@ use picture::Conversion;
 use picture::convert;
 use records::FrameRecord;
 use records::RECORD_SIZE;
+use records::no_record;
 use records::pixel_bytes;
 use records::record_bytes;
 use refusal::Answer;
@@ -261,16 +262,7 @@ fn found_as(found: Found, frame: &mut [u8; RECORD_SIZE]) -> i64
             pixel_bytes(record) as i64
         }
         Found::Refused(refusal) => {
-            let none = FrameRecord {
-                offset: 0,
-                width: 0,
-                height: 0,
-                kind: 0,
-                bits: 0,
-                copies: 0,
-                order: 0,
-            };
-            *frame = record_bytes(none);
+            *frame = record_bytes(no_record());
             refused(refusal)
         }
     }

@@ -6,9 +6,9 @@ use native.Mathlib.Omega.{arith}
 use mathlib.Core.Path.{_≡_, refl, sym, _∙_}
 use mathlib.Core.Bool.{Bool, true, false}
 use mathlib.Core.List.{List, [], _∷_}
-use lib.Dec.{eqb, ltb}
-use borrow.Author.Tests.{lt-ltb, le-ltb, ltb-true, eqb-true}
-use Rattle.refusal.specs.Answers.{Said, accepted, refused, refusedAt}
+use lib.Dec.{ltb}
+use borrow.Author.Tests.{lt-ltb, le-ltb, ltb-true}
+use Rattle.refusal.specs.Answers.{Verdict, sound, faulty, Said, accepted, refused, refusedAt}
 use Rattle.records.specs.declared.FrameRecord.{FrameRecord}
 use Rattle.records.specs.Faults.{pixelBytes, recordFault}
 use Rattle.layout.specs.LayOut.{lengthLimit, allPixels, recordsSay}
@@ -28,7 +28,7 @@ stays-refused-at (r ∷ rs) i w n at d = stays-refused-at rs (i + 1) w n at d
 -- Records none of which is at fault.
 pub data Fine : List FrameRecord → Type 0 where
   none : Fine []
-  one : {r : FrameRecord} {rs : List FrameRecord} → recordFault r ≡ 0 → Fine rs → Fine (r ∷ rs)
+  one : {r : FrameRecord} {rs : List FrameRecord} → recordFault r ≡ sound → Fine rs → Fine (r ∷ rs)
 
 -- The sum of their pixels, as the pass adds it up from s.
 abbrev pub summed : ℕ → List FrameRecord → ℕ
@@ -37,25 +37,21 @@ summed s (r ∷ rs) = summed (grown s (pixelBytes r)) rs
 
 -- A pass from place i that has come to the sum s: either a record is at fault, or none is.
 pub data Checked (rs : List FrameRecord) (i s : ℕ) (d : List ℕ) : Type 0 where
-  faulty : (n at : ℕ) → ((x : Said) → recordsSay x i rs ≡ refusedAt n at)
+  atFault : (n at : ℕ) → ((x : Said) → recordsSay x i rs ≡ refusedAt n at)
       → walked rs i (record { writing = false; says = accepted s; bytes = d }) ≡ record { writing = false; says = refusedAt n at; bytes = d } → Checked rs i s d
   fine : Fine rs → ((x : Said) → recordsSay x i rs ≡ x)
       → walked rs i (record { writing = false; says = accepted s; bytes = d }) ≡ record { writing = false; says = accepted (summed s rs); bytes = d } → Checked rs i s d
 
-check-more : (r : FrameRecord) (rs : List FrameRecord) (i s : ℕ) (d : List ℕ) → eqb (recordFault r) 0 ≡ true → Checked rs (i + 1) (grown s (pixelBytes r)) d → Checked (r ∷ rs) i s d
+check-one : (v : Verdict) (r : FrameRecord) (rs : List FrameRecord) (i s : ℕ) (d : List ℕ) → recordFault r ≡ v → Checked rs (i + 1) (grown s (pixelBytes r)) d → Checked (r ∷ rs) i s d
 unfolding recordsSay walked recordWritten
-check-more r rs i s d e (faulty n at says walks) = faulty n at (λ x. rw e (says x)) (rw e walks)
-check-more r rs i s d e (fine good says walks) = fine (one (eqb-true (recordFault r) 0 e) good) (λ x. rw e (says x)) (rw e walks)
-
-check-one : (b : Bool) (r : FrameRecord) (rs : List FrameRecord) (i s : ℕ) (d : List ℕ) → eqb (recordFault r) 0 ≡ b → Checked rs (i + 1) (grown s (pixelBytes r)) d → Checked (r ∷ rs) i s d
-unfolding recordsSay walked
-check-one true r rs i s d e rest = check-more r rs i s d e rest
-check-one false r rs i s d e rest = faulty (recordFault r) i (λ x. rw e) (rw e (stays-refused-at rs (i + 1) false (recordFault r) i d))
+check-one sound r rs i s d e (atFault n at says walks) = atFault n at (λ x. rw e (says x)) (rw e walks)
+check-one sound r rs i s d e (fine good says walks) = fine (one e good) (λ x. rw e (says x)) (rw e walks)
+check-one (faulty n) r rs i s d e rest = atFault n i (λ x. rw e) (rw e (stays-refused-at rs (i + 1) false n i d))
 
 pub check : (rs : List FrameRecord) (i s : ℕ) (d : List ℕ) → Checked rs i s d
 unfolding recordsSay walked
 check [] i s d = fine none (λ x. refl) refl
-check (r ∷ rs) i s d = check-one (eqb (recordFault r) 0) r rs i s d refl (check rs (i + 1) (grown s (pixelBytes r)) d)
+check (r ∷ rs) i s d = check-one (recordFault r) r rs i s d refl (check rs (i + 1) (grown s (pixelBytes r)) d)
 
 -- The sum is exact up to the limit, and past it where the pixels are.
 past : (rs : List FrameRecord) (s : ℕ) → lengthLimit < s → summed s rs ≡ s

@@ -18,7 +18,7 @@ use Rattle.records.specs.Faults.{frameLimit}
 use Rattle.layout.specs.declared.Progress.{Progress}
 use Rattle.layout.specs.LayOut.{lengthLimit, pixelsFrom, allPixels, totalLength, recordsSay, layoutSays, placed, tableBytes, headerOf, layoutBytes}
 use Rattle.layout.specs.HowLaidOut.{State, stateOf, recordPlace, walked, stopped, readied, laid}
-use Rattle.layout.proofs.Checking.{stays-refused, stays-refused-at, Fine, summed, Checked, faulty, fine, check, sum-fits, sum-past}
+use Rattle.layout.proofs.Checking.{stays-refused, stays-refused-at, Fine, summed, Checked, atFault, fine, check, sum-fits, sum-past}
 use Rattle.layout.proofs.Writing.{over-length, over-take, over-drop, write-all}
 
 -- What the contract of `lay_out` says.
@@ -118,13 +118,13 @@ module _ (rs : List FrameRecord) (shop : ℕ) (old : List ℕ) where
 
   checked : n ≤ frameLimit → Checked rs 0 0 old → Right (rest (walked rs 0 (begins old)))
   unfolding readied layoutSays
-  checked few (faulty k at says walks) =
+  checked few (atFault k at says walks) =
       right (refusedAt k at) (rest (walked rs 0 (begins old))) (rw (le-ltb _ _ few, says verdict))
       (rw (walks, le-ltb _ _ few) (ap (λ (y : State). y .says) (stays-refused-at rs 0 false k at old), ap (λ (y : State). y .bytes) (stays-refused-at rs 0 false k at old)))
   checked few (fine good says walks) = rw walks (sound few (ltb lengthLimit total) (eqb (length old) total) refl refl good says)
 
   keeps : Checked rs 0 0 old → walked rs 0 (begins old) .bytes ≡ old
-  keeps (faulty k at says walks) = ap (λ (z : State). z .bytes) walks
+  keeps (atFault k at says walks) = ap (λ (z : State). z .bytes) walks
   keeps (fine good says walks) = ap (λ (z : State). z .bytes) walks
 
   all : (b : Bool) → ltb frameLimit n ≡ b → Right (rest (walked rs 0 (begins old)))

@@ -7,7 +7,7 @@ use mathlib.Core.List.{List}
 use lib.ListN.{length, drop, getD, drop-of-length-le}
 use lib.Seq.{drop-cons}
 use Rattle.records.specs.declared.FrameRecord.{FrameRecord}
-use Rattle.spool.specs.Find.{noRecord}
+use Rattle.records.specs.Layout.{noRecord}
 use Rattle.layout.specs.HowLaidOut.{State, visited, walked}
 
 module _ (rs : List FrameRecord) (i : ℕ) (z : State) where

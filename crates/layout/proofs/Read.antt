@@ -10,8 +10,7 @@ use Rattle.numbers.specs.Bytes.{littleEndian, lowBytes}
 use Rattle.numbers.proofs.Bytes.{held}
 use Rattle.records.specs.declared.FrameRecord.{FrameRecord}
 use Rattle.records.specs.Fields.{numbersIn, fieldBytes}
-use Rattle.records.specs.Layout.{recordWidths, recordNumbers, recordFrom, recordIn, recordBytes, recordSize}
-use Rattle.spool.specs.Find.{noRecord}
+use Rattle.records.specs.Layout.{recordWidths, recordNumbers, recordFrom, recordIn, recordBytes, recordSize, noRecord}
 use Rattle.layout.specs.LayOut.{tableBytes}
 use Rattle.layout.specs.RoundTrip.{OfWidths, AllOfWidths}
 

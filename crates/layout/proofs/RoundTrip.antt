@@ -10,25 +10,25 @@ use lib.Dec.{eqb, ltb, lit<}
 use lib.ListN.{length, getD, take, drop, length-append}
 use lib.Seq.{drop-append-add}
 use borrow.Author.Tests.{le-ltb, ltb-false, eqb-true}
-use Rattle.refusal.specs.Answers.{accepted, refused}
+use Rattle.refusal.specs.Answers.{sound, accepted, refused}
 use Rattle.records.specs.declared.FrameRecord.{FrameRecord}
 use Rattle.records.specs.declared.Header.{Header}
-use Rattle.records.specs.Layout.{headerWidths, headerFrom, headerIn, recordIn, headerBytes, headerSize, recordSize}
+use Rattle.records.specs.Layout.{headerWidths, headerFrom, headerIn, recordIn, headerBytes, headerSize, recordSize, headerNumbers, noRecord, withOffset}
 use Rattle.records.specs.Faults.{pixelBytes, recordFault, frameLimit}
 use Rattle.spool.specs.Open.{openFault}
-use Rattle.spool.specs.Find.{finds, noRecord, recordAt, pixelsOutside, findSays, pixelsStart, pixelsLength, FindSaid}
+use Rattle.spool.specs.Find.{finds, recordAt, pixelsOutside, findSays, pixelsStart, pixelsLength, FindSaid}
 use Rattle.spool.proofs.OpenFaults.{no-fault}
 use Rattle.spool.proofs.FindFaults.{by-record, found}
-use Rattle.layout.specs.LayOut.{lengthLimit, pixelsFrom, allPixels, totalLength, layoutSays, withOffset, placed, tableBytes, headerOf, layoutBytes}
+use Rattle.layout.specs.LayOut.{lengthLimit, pixelsFrom, allPixels, totalLength, layoutSays, placed, tableBytes, headerOf, layoutBytes}
 use Rattle.layout.specs.RoundTrip.{AllOfWidths, pixelPlace, HoldsRecords}
-use Rattle.layout.proofs.Checking.{Fine, none, one, Checked, faulty, fine, check}
+use Rattle.layout.proofs.Checking.{Fine, none, one, Checked, atFault, fine, check}
 use Rattle.layout.proofs.Writing.{over-length, over-drop}
 use Rattle.layout.proofs.Read.{read-back, record-back}
 
 -- What holds where the layout is accepted.
 record Fits (rs : List FrameRecord) (room : ℕ) : Type 0 where
   few : length rs ≤ frameLimit
-  sound : Fine rs
+  good : Fine rs
   small : totalLength rs ≤ lengthLimit
   exact : room ≡ totalLength rs
 
@@ -40,10 +40,10 @@ module _ (rs : List FrameRecord) (room m : ℕ) where
 
   by-check : length rs ≤ frameLimit → Checked rs 0 0 [] → layoutSays rs room ≡ accepted m → Fits rs room
   unfolding layoutSays
-  by-check few (faulty n at says walks) e = let f = rw (le-ltb _ _ few, says _) at e in let z : _≡_ {A = ℕ} 0 1 = cc in absurd (omega arith)
-  by-check few (fine sound says walks) e =
+  by-check few (atFault n at says walks) e = let f = rw (le-ltb _ _ few, says _) at e in let z : _≡_ {A = ℕ} 0 1 = cc in absurd (omega arith)
+  by-check few (fine good says walks) e =
       let v = verdict (ltb lengthLimit (totalLength rs)) (eqb room (totalLength rs)) (rw (le-ltb _ _ few, says _) at e) in
-      record { few = few; sound = sound; small = ltb-false _ _ (v .0); exact = eqb-true _ _ (v .1) }
+      record { few = few; good = good; small = ltb-false _ _ (v .0); exact = eqb-true _ _ (v .1) }
 
   by-count : (b : Bool) → ltb frameLimit (length rs) ≡ b → layoutSays rs room ≡ accepted m → Fits rs room
   unfolding layoutSays
@@ -74,7 +74,7 @@ pixels-within [] k l = absurd (omega arith)
 pixels-within (r ∷ rs) zero l = omega arith
 pixels-within (r ∷ rs) (suc k) l = let more = pixels-within rs k (omega arith) in omega arith
 
-sound-at : (rs : List FrameRecord) (k : ℕ) → Fine rs → k < length rs → recordFault (getD rs k noRecord) ≡ 0
+sound-at : (rs : List FrameRecord) (k : ℕ) → Fine rs → k < length rs → recordFault (getD rs k noRecord) ≡ sound
 sound-at [] k none l = absurd (omega arith)
 sound-at (r ∷ rs) zero (one e rest) l = e
 sound-at (r ∷ rs) (suc k) (one e rest) l = sound-at rs k rest (omega arith)
@@ -119,16 +119,16 @@ module _ (rs : List FrameRecord) (shop : ℕ) (old : List ℕ) (fits : Fits rs (
   behind k l = ap (drop k) file-is ∙ over-drop old (head ++ table) 0 (pixelsFrom n) written room k l
 
   abbrev header : Header
-  header = record { count = n; shop = shop; table = headerSize; length = total }
+  header = headerOf n shop total
 
   header-is : header ≡ headerIn file
   unfolding layoutBytes headerIn
   header-is =
       let few = fits .few in
       let small = fits .small in
-      sym (ap headerFrom (read-back headerWidths (n ∷ shop ∷ headerSize ∷ total ∷ []) (table ++ tail) (omega arith, (low, (lit< tt, (omega arith, tt))))))
+      sym (ap headerFrom (read-back headerWidths (headerNumbers header) (table ++ tail) (omega arith, (low, (lit< tt, (omega arith, tt))))))
 
-  opens-well : openFault file ≡ 0
+  opens-well : openFault file ≡ sound
   opens-well = no-fault file header header-is (rw long (omega arith)) (sym long) (fits .few) (omega arith) (rw long (omega arith))
 
   module _ (k : ℕ) (l : k < n) where
@@ -158,7 +158,7 @@ module _ (rs : List FrameRecord) (shop : ℕ) (old : List ℕ) (fits : Fits rs (
     finds-it : findSays file k ≡ finds r
     finds-it =
         sym
-        (found file r (sym (same-fault at (getD rs k noRecord) ∙ sound-at rs k (fits .sound) l)) inside
+        (found file r (sym (same-fault at (getD rs k noRecord) ∙ sound-at rs k (fits .good) l)) inside
         ∙ by-record file k opens-well (rw (← header-is) l) record-is)
 
   holds : HoldsRecords rs shop old file

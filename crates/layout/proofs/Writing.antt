@@ -9,11 +9,11 @@ use mathlib.Core.List.{List, [], _∷_, _++_, append-assoc}
 use lib.ListN.{length, take, drop, length-append, length-take, length-drop, take-append-drop}
 use lib.Seq.{take-at, drop-at, drop-drop}
 use borrow.Author.Tests.{le-ltb}
-use Rattle.refusal.specs.Answers.{accepted}
+use Rattle.refusal.specs.Answers.{sound, accepted}
 use Rattle.records.specs.declared.FrameRecord.{FrameRecord}
-use Rattle.records.specs.Layout.{recordBytes, recordSize}
+use Rattle.records.specs.Layout.{recordBytes, recordSize, withOffset}
 use Rattle.records.specs.Faults.{pixelBytes, recordFault, frameLimit}
-use Rattle.layout.specs.LayOut.{allPixels, withOffset, placed, tableBytes, lengthLimit}
+use Rattle.layout.specs.LayOut.{allPixels, placed, tableBytes, lengthLimit}
 use Rattle.layout.specs.HowLaidOut.{recordPlace, visited, walked}
 use Rattle.layout.proofs.Written.{in-place}
 use Rattle.layout.proofs.Checking.{Fine, none, one}
@@ -48,10 +48,10 @@ module _ (r : FrameRecord) (i end : ℕ) (d : List ℕ) (few : i < frameLimit) (
   ends : recordPlace i + recordSize ≡ recordPlace (i + 1)
   ends = omega arith
 
-  write-one : recordFault r ≡ 0 → visited (record { writing = true; says = accepted end; bytes = d }) i r
+  write-one : recordFault r ≡ sound → visited (record { writing = true; says = accepted end; bytes = d }) i r
       ≡ record { writing = true; says = accepted (end + pixelBytes r); bytes = over d (recordBytes (withOffset end r)) (recordPlace i) (recordPlace (i + 1)) }
-  write-one sound =
-      rw (sound, le-ltb _ _ small)
+  write-one good =
+      rw (good, le-ltb _ _ small)
       (ap (λ (b : List ℕ). record { writing = true; says = accepted (end + pixelBytes r); bytes = b })
       (in-place i end r d few small (omega arith) ∙ ap (λ (k : ℕ). take (recordPlace i) d ++ (recordBytes (withOffset end r) ++ drop k d)) ends))
 
@@ -61,7 +61,7 @@ pub write-all : (rs : List FrameRecord) (i end : ℕ) (d : List ℕ) → Fine rs
 unfolding walked
 write-all [] i end d none few small room =
     rw (add-zero end, add-zero i) (ap (λ (b : List ℕ). record { writing = true; says = accepted end; bytes = b }) (sym (take-append-drop (recordPlace i) d)))
-write-all (r ∷ rs) i end d (one sound rest) few small room =
+write-all (r ∷ rs) i end d (one good rest) few small room =
     let low : i < frameLimit = omega arith in
     let fits : end ≤ lengthLimit = omega arith in
     let next : recordPlace (i + 1) ≤ length d = omega arith in
@@ -70,7 +70,7 @@ write-all (r ∷ rs) i end d (one sound rest) few small room =
     let d′ = over d b (recordPlace i) (recordPlace (i + 1)) in
     let long : length d′ ≡ length d = over-length d b (recordPlace i) (recordPlace (i + 1)) e next in
     let step : i + 1 + length rs ≡ i + suc (length rs) = omega arith in
-    ap (walked rs (i + 1)) (write-one r i end d low fits next sound)
+    ap (walked rs (i + 1)) (write-one r i end d low fits next good)
     ∙ write-all rs (i + 1) (end + pixelBytes r) d′ rest (omega arith) (omega arith) (rw long (omega arith))
     ∙ ap₂ (λ (n : ℕ) (x : List ℕ). record { writing = true; says = accepted n; bytes = x }) (add-assoc end (pixelBytes r) (allPixels rs))
     (ap (λ (x : List ℕ). x ++ (tableBytes (placed (end + pixelBytes r) rs) ++ drop (recordPlace (i + 1 + length rs)) d′)) (over-take d b (recordPlace i) (recordPlace (i + 1)) e next)

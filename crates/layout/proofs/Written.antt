@@ -11,12 +11,12 @@ use borrow.Author.Tests.{lt-ltb, le-ltb, le-leb, lt-leb}
 use Rattle.refusal.specs.declared.Refusal.{Refusal}
 use Rattle.refusal.specs.declared.Answer.the-variants.{Done, Refused, RefusedAt}
 use Rattle.refusal.specs.Refusals.{numberOf}
+use Rattle.refusal.specs.Answers.{sound, faulty}
 use Rattle.records.specs.declared.FrameRecord.{FrameRecord}
-use Rattle.records.specs.Layout.{recordBytes, recordSize}
+use Rattle.records.specs.Layout.{recordSize, withOffset, recordBytes}
 use Rattle.records.specs.Faults.{pixelBytes, recordFault, frameLimit}
-use Rattle.refusal.proofs.Numbers.{numbered}
 use Rattle.layout.specs.declared.Progress.{Progress}
-use Rattle.layout.specs.LayOut.{withOffset, lengthLimit}
+use Rattle.layout.specs.LayOut.{lengthLimit}
 use Rattle.layout.specs.HowLaidOut.{stateOf, grown, recordPlace, recordWritten, visited}
 
 -- Bytes copied to the start of a list.
@@ -59,11 +59,11 @@ module _ (place end : ℕ) (r : FrameRecord) (d : List ℕ) where
 
 -- One record's visit, by what the pass says so far.
 module _ (p : Progress) (d : List ℕ) (place : ℕ) (r : FrameRecord) where
-  pub visit-faulty : {end : ℕ} (why : Refusal) → p .answer ≡ Done end → numberOf why ≡ recordFault r
+  pub visit-faulty : {end : ℕ} (why : Refusal) → p .answer ≡ Done end → faulty (numberOf why) ≡ recordFault r
       → stateOf (record { writing = p .writing; answer = RefusedAt why place }) d ≡ visited (stateOf p d) place r
-  visit-faulty {end} why e f = rw (e, ← f, numbered why)
+  visit-faulty why e f = rw (e, ← f)
 
-  pub visit-sound : {end next : ℕ} {d′ : List ℕ} → p .answer ≡ Done end → 0 ≡ recordFault r → next ≡ grown end (pixelBytes r) → d′ ≡ recordWritten (p .writing) place end r d
+  pub visit-sound : {end next : ℕ} {d′ : List ℕ} → p .answer ≡ Done end → sound ≡ recordFault r → next ≡ grown end (pixelBytes r) → d′ ≡ recordWritten (p .writing) place end r d
       → stateOf (record { writing = p .writing; answer = Done next }) d′ ≡ visited (stateOf p d) place r
   visit-sound e f g b = rw (e, ← f, g, b)
 

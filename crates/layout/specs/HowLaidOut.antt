@@ -7,12 +7,13 @@ use mathlib.Core.Bool.{Bool, true, false, cond}
 use mathlib.Core.List.{List, [], _∷_, _++_}
 use lib.ListN.{length, take, drop}
 use lib.Dec.{eqb, leb, ltb}
-use Rattle.refusal.specs.Answers.{Said, accepted, refused, refusedAt, said}
+use Rattle.refusal.specs.Answers.{Said, accepted, refused, refusedAt, said, leaves}
 use Rattle.records.specs.declared.FrameRecord.{FrameRecord}
-use Rattle.records.specs.Layout.{headerSize, recordSize, headerBytes, recordBytes}
+use Rattle.records.specs.Layout.{headerSize, recordSize, withOffset, headerBytes, recordBytes}
 use Rattle.records.specs.Faults.{frameLimit, pixelBytes, recordFault}
 use Rattle.layout.specs.declared.Progress.{Progress}
-use Rattle.layout.specs.LayOut.{lengthLimit, pixelsFrom, headerOf, withOffset}
+use Rattle.layout.specs.LayOut.{lengthLimit, pixelsFrom, headerOf}
+use Rattle.samples.specs.Faults.{decides}
 
 -- What a pass has: whether it writes, what it says so far, accepted with the offset behind the pixels placed so far, and
 -- the destination.
@@ -48,9 +49,8 @@ recordWritten writing place end r bytes =
 -- One record.
 abbrev pub visitedAt : Bool → Said → List ℕ → ℕ → FrameRecord → State
 visitedAt writing (accepted end) bytes place r =
-    cond (eqb (recordFault r) 0)
-    (record { writing = writing; says = accepted (grown end (pixelBytes r)); bytes = recordWritten writing place end r bytes })
-    (record { writing = writing; says = refusedAt (recordFault r) place; bytes = bytes })
+    let says = decides (recordFault r) place (accepted (grown end (pixelBytes r))) in
+    record { writing = writing; says = says; bytes = leaves says (recordWritten writing place end r bytes) bytes }
 visitedAt writing (refused n) bytes place r = record { writing = writing; says = refused n; bytes = bytes }
 visitedAt writing (refusedAt n at) bytes place r = record { writing = writing; says = refusedAt n at; bytes = bytes }
 

@@ -5,11 +5,12 @@ use mathlib.Core.Bool.{cond}
 use mathlib.Core.List.{List, [], _∷_, _++_}
 use lib.ListN.{length, drop}
 use lib.Dec.{eqb, ltb}
-use Rattle.refusal.specs.Answers.{Said, accepted, refused, refusedAt}
+use Rattle.refusal.specs.Answers.{Said, accepted, refused}
 use Rattle.records.specs.declared.FrameRecord.{FrameRecord}
 use Rattle.records.specs.declared.Header.{Header}
-use Rattle.records.specs.Layout.{headerSize, recordSize, headerBytes, recordBytes}
+use Rattle.records.specs.Layout.{headerSize, recordSize, withOffset, headerBytes, recordBytes}
 use Rattle.records.specs.Faults.{frameLimit, pixelBytes, recordFault}
+use Rattle.samples.specs.Faults.{decides}
 
 -- 14: the greatest length that a header can say.
 abbrev pub lengthLimit : ℕ
@@ -26,11 +27,10 @@ allPixels (r ∷ rs) = pixelBytes r + allPixels rs
 abbrev pub totalLength : List FrameRecord → ℕ
 totalLength rs = pixelsFrom (length rs) + allPixels rs
 
--- 6 and 7, of records the first of which has the given place: the first one at fault decides, and `sound` is said if there is none.
+-- 6 and 7, of records the first of which has the given place: the first one at fault decides, and `done` is said if there is none.
 unfoldable pub recordsSay : Said → ℕ → List FrameRecord → Said
-recordsSay sound place [] = sound
-recordsSay sound place (r ∷ rs) =
-    cond (eqb (recordFault r) 0) (recordsSay sound (place + 1) rs) (refusedAt (recordFault r) place)
+recordsSay done place [] = done
+recordsSay done place (r ∷ rs) = decides (recordFault r) place (recordsSay done (place + 1) rs)
 
 -- The answer, for a destination of `room` bytes: 3, the records, 14, 11, or the total length.
 unfoldable pub layoutSays : List FrameRecord → ℕ → Said
@@ -42,10 +42,6 @@ layoutSays rs room =
     0 rs)
 
 -- The records with their new offsets, the first at the given one: pixels follow each other.
-abbrev pub withOffset : ℕ → FrameRecord → FrameRecord
-withOffset at r =
-    record { offset = at; width = r .width; height = r .height; kind = r .kind; bits = r .bits; copies = r .copies; order = r .order }
-
 abbrev pub placed : ℕ → List FrameRecord → List FrameRecord
 placed at [] = []
 placed at (r ∷ rs) = withOffset at r ∷ placed (at + pixelBytes r) rs

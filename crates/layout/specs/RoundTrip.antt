@@ -5,11 +5,11 @@ use mathlib.Core.Path.{_≡_}
 use mathlib.Core.List.{List, [], _∷_}
 use lib.ListN.{length, getD, take, drop}
 use Rattle.records.specs.declared.FrameRecord.{FrameRecord}
-use Rattle.records.specs.Layout.{recordWidths, headerSize, recordNumbers}
+use Rattle.records.specs.Layout.{recordWidths, headerSize, recordNumbers, noRecord, withOffset}
 use Rattle.records.specs.Faults.{pixelBytes}
 use Rattle.spool.specs.Open.{opens, openSays}
-use Rattle.spool.specs.Find.{finds, noRecord, findSays, framePixels}
-use Rattle.layout.specs.LayOut.{pixelsFrom, allPixels, withOffset}
+use Rattle.spool.specs.Find.{finds, findSays, framePixels}
+use Rattle.layout.specs.LayOut.{pixelsFrom, allPixels}
 
 -- Numbers that have these widths, in bytes.
 abbrev pub OfWidths : List ℕ → List ℕ → Type 0

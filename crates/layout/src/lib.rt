@@ -2,7 +2,6 @@
 // a pass that writes. It promises the refusals in the rule's order, and every byte of the destination; it
 // asks nothing of a caller.
 use bytes::copy;
-use records::Checked;
 use records::FRAME_LIMIT;
 use records::FrameRecord;
 use records::HEADER_SIZE;
@@ -12,7 +11,9 @@ use records::check_record;
 use records::header_bytes;
 use records::pixel_bytes;
 use records::record_bytes;
+use records::with_offset;
 use refusal::Answer;
+use refusal::Checked;
 use refusal::Refusal;
 ghost use mathlib.Core.Path.{_≡_};
 ghost use mathlib.Core.Bool.{false};
@@ -56,9 +57,7 @@ fn write_record(dst: &mut [u8], writing: bool, place: usize, end: usize, frame: 
     if dst.len() < at + RECORD_SIZE {
         return;
     }
-    let mut placed = frame;
-    placed.offset = end as u32;
-    let bytes = record_bytes(placed);
+    let bytes = record_bytes(with_offset(end as u32, frame));
     copy(&bytes, &mut dst[at..]);
 }
 

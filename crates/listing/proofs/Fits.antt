@@ -6,20 +6,22 @@ use native.Mathlib.Omega.{arith}
 use mathlib.Core.Path.{_≡_, refl}
 use mathlib.Core.Bool.{Bool, true, false, cond}
 use mathlib.Core.List.{List, [], _∷_, _++_}
-use lib.Dec.{eqb, ltb}
+use lib.Dec.{ltb}
 use lib.ListN.{length, take, length-append}
-use borrow.Author.Tests.{ltb-true, ltb-false, eqb-true}
+use borrow.Author.Tests.{ltb-true, ltb-false}
 use Rattle.numbers.proofs.Bytes.{AllBytes}
 use Rattle.records.specs.Layout.{headerIn}
 use Rattle.records.proofs.Small.{Small}
 use Rattle.records.specs.Faults.{frameLimit}
-use Rattle.spool.specs.Open.{openFault, openSays}
-use Rattle.spool.specs.Find.{FindSaid, finds, refusesFrame, findFault, noRecord, findSays, recordAt}
-use Rattle.spool.proofs.OpenFaults.{sound}
-use Rattle.spool.proofs.Small.{open-fault-small, find-fault-small, record-at-small}
+use Rattle.records.proofs.Verdicts.{TwoDigits}
+use Rattle.spool.specs.Open.{openFault, openBy, openSays}
+use Rattle.spool.specs.Find.{FindSaid, finds, refusesFrame, findFault, findBy, findSays, recordAt}
+use Rattle.spool.proofs.OpenFaults.{open-file}
+use Rattle.spool.proofs.Small.{open-fault-short, find-fault-short, record-at-small}
 use Rattle.listing.specs.Text.{decimal, Buffer, putText}
 use Rattle.listing.specs.Listing.{refusedWord, fields, line, lines, spoolText, listing, listingRoom, inputLimit}
 use Rattle.listing.proofs.Texts.{one-digit, more-digits, ends}
+use Rattle.refusal.specs.Answers.{Verdict, sound, faulty}
 
 -- A number below a power of ten has no more digits than that power.
 decimal-short : (d n : ℕ) → n < 10 ^ suc d → length (decimal n) ≤ suc d
@@ -34,7 +36,7 @@ decimal-short (suc d) n h = by-test (ltb n 10) refl (decimal-short d (n / 10)) w
 -- The answers of Find that a file of bytes gives.
 abbrev Short : FindSaid → Type 0
 Short (finds r) = Small r
-Short (refusesFrame n r) = n < 10
+Short (refusesFrame n r) = n < 100
 
 -- No line is longer.
 abbrev lineRoom : ℕ
@@ -43,24 +45,24 @@ lineRoom = 52
 line-short : (k : ℕ) (s : FindSaid) → k < frameLimit → Short s → length (line k s) ≤ lineRoom
 line-short k (finds r) below small =
     let number = decimal-short 2 k (omega arith) in
-    let order = decimal-short 9 (r .order) (omega (arith, small .order)) in
-    let kind = decimal-short 2 (r .kind) (omega (arith, small .kind)) in
-    let bits = decimal-short 2 (r .bits) (omega (arith, small .bits)) in
-    let width = decimal-short 4 (r .width) (omega (arith, small .width)) in
-    let height = decimal-short 4 (r .height) (omega (arith, small .height)) in
-    let copies = decimal-short 4 (r .copies) (omega (arith, small .copies)) in
-    let offset = decimal-short 9 (r .offset) (omega (arith, small .offset)) in
+    let order = decimal-short 9 (r .order) (omega (arith, small 6)) in
+    let kind = decimal-short 2 (r .kind) (omega (arith, small 3)) in
+    let bits = decimal-short 2 (r .bits) (omega (arith, small 4)) in
+    let width = decimal-short 4 (r .width) (omega (arith, small 1)) in
+    let height = decimal-short 4 (r .height) (omega (arith, small 2)) in
+    let copies = decimal-short 4 (r .copies) (omega (arith, small 5)) in
+    let offset = decimal-short 9 (r .offset) (omega (arith, small 0)) in
     simp length-append (omega (arith, number, order, kind, bits, width, height, copies, offset))
 line-short k (refusesFrame n r) below small =
     let number = decimal-short 2 k (omega arith) in
-    let why = decimal-short 0 n (omega (arith, small)) in
+    let why = decimal-short 1 n (omega (arith, small)) in
     simp length-append (omega (arith, number, why))
 
 found-short : (file : List ℕ) → AllBytes file → (k : ℕ) → Short (findSays file k)
-found-short file all k = by-test (eqb (findFault file k) 0) where
-  by-test : (t : Bool) → Short (cond t (finds (recordAt file k)) (refusesFrame (findFault file k) noRecord))
-  by-test true = record-at-small file all k
-  by-test false = find-fault-small file k
+found-short file all k = by-fault (findFault file k) (find-fault-short file k) where
+  by-fault : (v : Verdict) → TwoDigits v → Short (findBy v (recordAt file k))
+  by-fault sound h = record-at-small file all k
+  by-fault (faulty n) h = h
 
 lines-short : (file : List ℕ) → AllBytes file → (left k : ℕ) → k + left ≤ frameLimit → length (lines file left k) ≤ lineRoom * left
 unfolding lines
@@ -72,15 +74,15 @@ lines-short file all (suc left) k h =
 
 pub listing-short : (file : List ℕ) → AllBytes file → length (listing file) ≤ listingRoom
 listing-short file all = by-length (ltb inputLimit (length file)) where
-  by-fault : (t : Bool) → eqb (openFault file) 0 ≡ t → length (spoolText file (openSays file)) ≤ listingRoom
-  by-fault true e =
-      let few = sound file (eqb-true (openFault file) 0 e) .few in
-      rw e (simp length-append (omega (arith, few, lines-short file all (headerIn file .count) 0 (omega arith))))
-  by-fault false e = rw e (simp length-append (omega (arith, decimal-short 0 (openFault file) (open-fault-small file))))
+  by-fault : (v : Verdict) → openFault file ≡ v → TwoDigits v → length (spoolText file (openBy v (headerIn file))) ≤ listingRoom
+  by-fault sound e h =
+      let few = open-file file e .few in
+      simp length-append (omega (arith, few, lines-short file all (headerIn file .count) 0 (omega arith)))
+  by-fault (faulty n) e h = simp length-append (omega (arith, decimal-short 1 n (omega (arith, h))))
 
   by-length : (t : Bool) → length (cond t (refusedWord ++ fields (15 ∷ [])) (spoolText file (openSays file))) ≤ listingRoom
   by-length true = simp length-append (omega (arith, decimal-short 1 15 (omega arith)))
-  by-length false = by-fault (eqb (openFault file) 0) refl
+  by-length false = by-fault (openFault file) refl (open-fault-short file)
 
 -- What a listing leaves in a buffer, and all of it where there is room for every listing.
 pub answers : (file d : List ℕ) → AllBytes file → (z : Buffer) → z ≡ putText (record { bytes = d; at = 0 }) (listing file)

@@ -12,6 +12,7 @@ ghost use mathlib.Core.Path.{_≡_};
 ghost use mathlib.Core.List.{[], _∷_, _++_};
 ghost use Prim.Native.Nat.{_+_, _≤_};
 ghost use lib.ListN.{length, take};
+ghost use Rattle.refusal.specs.Answers.{sound};
 ghost use Rattle.records.specs.Layout.{headerIn};
 ghost use Rattle.spool.specs.Open.{openFault};
 ghost use Rattle.spool.specs.Find.{finds, findSaid};
@@ -121,7 +122,7 @@ fn put_line(out: &mut [u8], at: usize, frame: usize, found: Found) -> usize
 
 // The lines of the frames of an open spool, one step of the walker after another.
 fn put_lines(file: &[u8], count: usize, out: &mut [u8], at: usize) -> usize
-    requires { ⌜ (openFault (now file) ≡ 0) × (count ≡ headerIn (now file) .count) ⌝ }
+    requires { ⌜ (openFault (now file) ≡ sound) × (count ≡ headerIn (now file) .count) ⌝ }
     ensures { λ r. ⌜ record { bytes = now (out .exit); at = r } ≡ putText (record { bytes = now (out .entry); at = at }) (lines (now (file .entry)) count 0) ⌝ }
 {
     let mut next = at;

@@ -9,9 +9,7 @@ use mathlib.Core.List.{List, [], _∷_, _++_}
 use lib.ListN.{length, getD, take, drop}
 use lib.Seq.{drop-cons, drop-drop}
 use Rattle.numbers.specs.Bytes.{littleEndian, lowBytes}
-use Rattle.records.specs.declared.Header.{Header}
-use Rattle.records.specs.declared.FrameRecord.{FrameRecord}
-use Rattle.records.specs.Layout.{headerIn, recordIn}
+use Rattle.records.specs.Layout.{headerFrom, recordFrom, headerIn, recordIn}
 
 -- The k elements from place i on, one by one.
 abbrev spelled : ℕ → ℕ → List ℕ → List ℕ
@@ -47,14 +45,14 @@ module _ (xs : List ℕ) (i : ℕ) where
 
 pub header-read : (xs : List ℕ) {count shop table length : ℕ}
     → count ≡ numberAt 2 xs 0 → shop ≡ numberAt 2 xs 2 → table ≡ numberAt 4 xs 4 → length ≡ numberAt 4 xs 8
-    → _≡_ {A = Header} (record { count = count; shop = shop; table = table; length = length }) (headerIn xs)
+    → headerFrom (count ∷ shop ∷ table ∷ length ∷ []) ≡ headerIn xs
 unfolding headerIn
 header-read xs p q r s = simp (p, q, r, s, drop-drop)
 
 pub record-read : (xs : List ℕ) {offset width height kind bits copies order : ℕ}
     → offset ≡ numberAt 4 xs 0 → width ≡ numberAt 2 xs 4 → height ≡ numberAt 2 xs 6 → kind ≡ numberAt 1 xs 8
     → bits ≡ numberAt 1 xs 9 → copies ≡ numberAt 2 xs 10 → order ≡ numberAt 4 xs 12
-    → _≡_ {A = FrameRecord} (record { offset = offset; width = width; height = height; kind = kind; bits = bits; copies = copies; order = order }) (recordIn xs)
+    → recordFrom (offset ∷ width ∷ height ∷ kind ∷ bits ∷ copies ∷ order ∷ []) ≡ recordIn xs
 unfolding recordIn
 record-read xs p q r s t u v =
     let height-at : drop 2 (drop 4 xs) ≡ drop 6 xs = drop-drop 2 4 xs in

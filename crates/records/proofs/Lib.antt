@@ -1,3 +1,4 @@
 pub mod Fields
 pub mod Sizes
+pub mod Verdicts
 pub mod Small

@@ -1,14 +1,12 @@
 -- What the records of a spool may say (rules 7.3 and 7.4), and how many there may be.
 -- Assumes nothing.
 use Prim.Native.Nat.{ℕ, _*_}
-use mathlib.Core.Bool.{Bool, false, cond, _||_}
+use mathlib.Core.Bool.{Bool, false, cond, not, _||_}
 use lib.Dec.{eqb, ltb}
-use Rattle.refusal.specs.Refusals.{numberOf}
+use Rattle.refusal.specs.Answers.{Verdict, sound, faulty}
 use Rattle.esrgb.specs.Depths.{offered}
 use Rattle.samples.specs.Samples.{isWide, pixelSize}
 use Rattle.records.specs.declared.FrameRecord.{FrameRecord}
-use Rattle.records.specs.declared.Checked.{Checked}
-use Rattle.records.specs.declared.Checked.the-variants.{Sound, Faulty}
 
 -- Rules 7.5 and 7.8, 3: the most frames that a spool has.
 abbrev pub frameLimit : ℕ
@@ -25,13 +23,12 @@ sideLimit = 8192
 abbrev pub badSide : ℕ → Bool
 badSide side = eqb side 0 || ltb sideLimit side
 
--- The refusal of a record by itself, 6 before 7; 0 stands for none.
-unfoldable pub recordFault : FrameRecord → ℕ
-recordFault r = cond (isPair (r .kind) (r .bits)) (cond (badSide (r .width) || badSide (r .height)) 7 0) 6
-
-abbrev pub checked : Checked → ℕ
-checked Sound = 0
-checked (Faulty r) = numberOf r
+-- The refusal of a record by itself: 6, then 7.
+unfoldable pub recordFault : FrameRecord → Verdict
+recordFault r =
+    cond (not (isPair (r .kind) (r .bits))) (faulty 6)
+    (cond (badSide (r .width) || badSide (r .height)) (faulty 7)
+    sound)
 
 -- Rule 7.4: the bytes of a frame's pixels.
 abbrev pub pixelBytes : FrameRecord → ℕ

@@ -47,6 +47,13 @@ abbrev pub recordFrom : List ℕ → FrameRecord
 recordFrom ns =
     record { offset = getD ns 0 0; width = getD ns 1 0; height = getD ns 2 0; kind = getD ns 3 0; bits = getD ns 4 0; copies = getD ns 5 0; order = getD ns 6 0 }
 
+-- The record of zeros, and a record with another offset of its pixels.
+abbrev pub noRecord : FrameRecord
+noRecord = recordFrom []
+
+abbrev pub withOffset : ℕ → FrameRecord → FrameRecord
+withOffset at r = recordFrom (at ∷ drop 1 (recordNumbers r))
+
 -- The header and the record that stand at the start of some bytes.
 unfoldable pub headerIn : List ℕ → Header
 headerIn bytes = headerFrom (numbersIn headerWidths bytes)

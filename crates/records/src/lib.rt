@@ -6,6 +6,7 @@ use numbers::four_bytes;
 use numbers::from_four;
 use numbers::from_two;
 use numbers::two_bytes;
+use refusal::Checked;
 use refusal::Refusal;
 use samples::pixel_size;
 ghost use mathlib.Core.Path.{_≡_};
@@ -13,8 +14,9 @@ ghost use Prim.Native.Nat.{_+_, _≤_};
 ghost use lib.ListN.{length, take, drop};
 ghost use Rattle.esrgb.specs.Depths.{offered};
 ghost use Rattle.numbers.specs.Bytes.{littleEndian};
-ghost use Rattle.records.specs.Layout.{recordSize, recordIn, headerBytes, recordBytes, ReadsHeader, ReadsRecord};
-ghost use Rattle.records.specs.Faults.{isPair, badSide, checked, recordFault, pixelBytes};
+ghost use Rattle.refusal.specs.Answers.{verdict};
+ghost use Rattle.records.specs.Layout.{recordSize, noRecord, withOffset, recordIn, headerBytes, recordBytes, ReadsHeader, ReadsRecord};
+ghost use Rattle.records.specs.Faults.{isPair, badSide, recordFault, pixelBytes};
 
 // The bytes of a header and of a record.
 pub const HEADER_SIZE: usize = 12;
@@ -45,6 +47,30 @@ pub struct FrameRecord {
     pub bits: u8,
     pub copies: u16,
     pub order: u32,
+}
+
+// The record of zeros.
+pub fn no_record() -> FrameRecord
+    ensures { λ r. ⌜ r ≡ noRecord ⌝ }
+{
+    FrameRecord {
+        offset: 0,
+        width: 0,
+        height: 0,
+        kind: 0,
+        bits: 0,
+        copies: 0,
+        order: 0,
+    }
+}
+
+// A record with another offset of its pixels.
+pub fn with_offset(offset: u32, frame: FrameRecord) -> FrameRecord
+    ensures { λ r. ⌜ r ≡ withOffset offset frame ⌝ }
+{
+    let mut placed = frame;
+    placed.offset = offset;
+    placed
 }
 
 // ---- from bytes
@@ -208,15 +234,9 @@ fn bad_side(side: u16) -> bool
     SIDE_LIMIT < side
 }
 
-// What is wrong with a record by itself.
-pub enum Checked {
-    Sound,
-    Faulty(Refusal),
-}
-
 // Checks a record's kind, bits, width and height.
 pub fn check_record(frame: FrameRecord) -> Checked
-    ensures { λ r. ⌜ checked r ≡ recordFault frame ⌝ }
+    ensures { λ r. ⌜ verdict r ≡ recordFault frame ⌝ }
 {
     if !is_pair(frame.kind, frame.bits) {
         return Checked::Faulty(Refusal::UnknownKind);

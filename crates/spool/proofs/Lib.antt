@@ -1,4 +1,3 @@
-pub mod Tests
 pub mod OpenFaults
 pub mod FindFaults
 pub mod Small

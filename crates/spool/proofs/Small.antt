@@ -1,39 +1,35 @@
--- What Open and Find say of a file of bytes is small: refusals of one digit, and a record's numbers by their widths.
+-- What Open and Find can say of a file of bytes: refusals of few digits, and a record's numbers by their widths.
 -- Assumes nothing.
-use Prim.Native.Nat.{ℕ, _+_, _*_, _<_}
+use Prim.Native.Nat.{ℕ, _+_, _*_}
 use native.Mathlib.Omega.{arith}
 use mathlib.Core.Bool.{not, _||_}
 use mathlib.Core.List.{List}
 use lib.ListN.{length}
 use lib.Dec.{eqb, ltb}
-use Rattle.numbers.proofs.Booleans.{cond-below}
 use Rattle.numbers.proofs.Bytes.{AllBytes}
+use Rattle.refusal.specs.Answers.{sound}
 use Rattle.records.specs.Layout.{headerSize, recordSize, headerIn}
 use Rattle.records.specs.Faults.{frameLimit, recordFault}
-use Rattle.records.proofs.Small.{Small, record-small, record-fault-small, dropped}
+use Rattle.records.proofs.Small.{Small, record-small, dropped}
+use Rattle.records.proofs.Verdicts.{TwoDigits, test-short, either-short, record-fault-short}
 use Rattle.spool.specs.Open.{openFault, tableEnd}
-use Rattle.spool.specs.Find.{orElse, frameFault, findFault, pixelsOutside, recordAt}
+use Rattle.spool.specs.Find.{findFault, pixelsOutside, recordAt}
 
-either-small : (x y : ℕ) → x < 10 → y < 10 → orElse x y < 10
-either-small x y p q = cond-below (eqb x 0) y x 10 q p
-
-pub open-fault-small : (file : List ℕ) → openFault file < 10
+pub open-fault-short : (file : List ℕ) → TwoDigits (openFault file)
 unfolding openFault
-open-fault-small file =
-    cond-below (ltb (length file) headerSize) 1 _ 10 (omega arith)
-    (cond-below (not (eqb (headerIn file .length) (length file))) 2 _ 10 (omega arith)
-    (cond-below (ltb frameLimit (headerIn file .count)) 3 _ 10 (omega arith)
-    (cond-below (ltb (headerIn file .table) headerSize || ltb (length file) (tableEnd file)) 4 0 10 (omega arith) (omega arith))))
+open-fault-short file =
+    test-short (ltb (length file) headerSize) 1 _ (omega arith)
+    (test-short (not (eqb (headerIn file .length) (length file))) 2 _ (omega arith)
+    (test-short (ltb frameLimit (headerIn file .count)) 3 _ (omega arith)
+    (test-short (ltb (headerIn file .table) headerSize || ltb (length file) (tableEnd file)) 4 sound (omega arith) tt)))
 
-frame-fault-small : (file : List ℕ) (k : ℕ) → frameFault file (recordAt file k) < 10
-frame-fault-small file k =
-    let r = recordAt file k in
-    either-small (recordFault r) _ (record-fault-small r) (cond-below (pixelsOutside file r) 8 0 10 (omega arith) (omega arith))
-
-pub find-fault-small : (file : List ℕ) (k : ℕ) → findFault file k < 10
+pub find-fault-short : (file : List ℕ) (k : ℕ) → TwoDigits (findFault file k)
 unfolding findFault
-find-fault-small file k =
-    either-small (openFault file) _ (open-fault-small file) (cond-below (ltb k (headerIn file .count)) _ 5 10 (frame-fault-small file k) (omega arith))
+find-fault-short file k =
+    let r = recordAt file k in
+    either-short (openFault file) _ (open-fault-short file)
+    (test-short (not (ltb k (headerIn file .count))) 5 _ (omega arith)
+    (either-short (recordFault r) _ (record-fault-short r) (test-short (pixelsOutside file r) 8 sound (omega arith) tt)))
 
 pub record-at-small : (file : List ℕ) → AllBytes file → (k : ℕ) → Small (recordAt file k)
 unfolding recordAt

@@ -1,15 +1,16 @@
 -- Find a frame (rule 7.6).
 -- Assumes nothing.
 use Prim.Native.Nat.{ℕ, _+_, _*_}
-use mathlib.Core.Bool.{Bool, cond, _||_}
+use mathlib.Core.Bool.{Bool, cond, not, _||_}
 use mathlib.Core.List.{List}
 use mathlib.Core.Path.{_≡_}
 use lib.ListN.{length, take, drop}
-use lib.Dec.{eqb, ltb}
+use lib.Dec.{ltb}
 use denote.Ref.{RefT, now, ptr}
 use Rattle.refusal.specs.Refusals.{numberOf}
+use Rattle.refusal.specs.Answers.{Verdict, sound, faulty, orElse}
 use Rattle.records.specs.declared.FrameRecord.{FrameRecord}
-use Rattle.records.specs.Layout.{headerSize, recordSize, headerIn, recordIn}
+use Rattle.records.specs.Layout.{headerSize, recordSize, noRecord, headerIn, recordIn}
 use Rattle.records.specs.Faults.{recordFault, pixelBytes}
 use Rattle.spool.specs.declared.Found.{Found}
 use Rattle.spool.specs.declared.Found.the-variants.{Frame, Refused}
@@ -27,38 +28,33 @@ pixelEnd r = r .offset + pixelBytes r
 unfoldable pub pixelsOutside : List ℕ → FrameRecord → Bool
 pixelsOutside file r = ltb (r .offset) headerSize || ltb (length file) (pixelEnd r)
 
--- The first of two faults.
-abbrev pub orElse : ℕ → ℕ → ℕ
-orElse first second = cond (eqb first 0) second first
-
 -- The refusal of a record in its file: 6, 7, then 8.
-abbrev pub frameFault : List ℕ → FrameRecord → ℕ
-frameFault file r = orElse (recordFault r) (cond (pixelsOutside file r) 8 0)
+abbrev pub frameFault : List ℕ → FrameRecord → Verdict
+frameFault file r = orElse (recordFault r) (cond (pixelsOutside file r) (faulty 8) sound)
 
 -- The refusal of a frame number: Open's, then 5, then that of its record.
-unfoldable pub findFault : List ℕ → ℕ → ℕ
-findFault file k = orElse (openFault file) (cond (ltb k (headerIn file .count)) (frameFault file (recordAt file k)) 5)
+unfoldable pub findFault : List ℕ → ℕ → Verdict
+findFault file k =
+    orElse (openFault file) (cond (not (ltb k (headerIn file .count))) (faulty 5) (frameFault file (recordAt file k)))
 
 -- The answer: the record; or the refusal, with a record of zeros.
 pub data FindSaid : Type 0 where
   finds : FrameRecord → FindSaid
   refusesFrame : ℕ → FrameRecord → FindSaid
 
-abbrev pub noRecord : FrameRecord
-noRecord = record { offset = 0; width = 0; height = 0; kind = 0; bits = 0; copies = 0; order = 0 }
-
 abbrev pub findSaid : Found → FindSaid
 findSaid (Frame r) = finds r
 findSaid (Refused r) = refusesFrame (numberOf r) noRecord
 
-abbrev pub byFault : ℕ → FrameRecord → FindSaid
-byFault fault r = cond (eqb fault 0) (finds r) (refusesFrame fault noRecord)
+abbrev pub findBy : Verdict → FrameRecord → FindSaid
+findBy sound r = finds r
+findBy (faulty n) r = refusesFrame n noRecord
 
 abbrev pub frameSays : List ℕ → FrameRecord → FindSaid
-frameSays file r = byFault (frameFault file r) r
+frameSays file r = findBy (frameFault file r) r
 
 abbrev pub findSays : List ℕ → ℕ → FindSaid
-findSays file k = byFault (findFault file k) (recordAt file k)
+findSays file k = findBy (findFault file k) (recordAt file k)
 
 -- The frame's pixels in the lent file, document 01's stretch: where they start and how many bytes they are. Refused, there are none, at
 -- the file's first byte.

@@ -6,6 +6,8 @@ use mathlib.Core.List.{List}
 use lib.ListN.{length}
 use lib.Dec.{eqb, ltb}
 use Rattle.refusal.specs.Refusals.{numberOf}
+use Rattle.refusal.specs.Answers.{Verdict, sound, faulty}
+use Rattle.records.specs.declared.Header.{Header}
 use Rattle.spool.specs.declared.Opened.{Opened}
 use Rattle.spool.specs.declared.Opened.the-variants.{Spool, Refused}
 use Rattle.records.specs.Layout.{headerSize, recordSize, headerIn}
@@ -25,17 +27,18 @@ abbrev pub tableEnd : List ℕ → ℕ
 tableEnd file = headerIn file .table + recordSize * headerIn file .count
 
 -- The first refusal, in the rule's order: no room for a header, another length than the file's, too many frames, a table outside the
--- file or inside the header; 0 stands for none.
-unfoldable pub openFault : List ℕ → ℕ
+-- file or inside the header.
+unfoldable pub openFault : List ℕ → Verdict
 openFault file =
-    cond (ltb (length file) headerSize) 1
-    (cond (not (eqb (headerIn file .length) (length file))) 2
-    (cond (ltb frameLimit (headerIn file .count)) 3
-    (cond (ltb (headerIn file .table) headerSize || ltb (length file) (tableEnd file)) 4
-    0)))
+    cond (ltb (length file) headerSize) (faulty 1)
+    (cond (not (eqb (headerIn file .length) (length file))) (faulty 2)
+    (cond (ltb frameLimit (headerIn file .count)) (faulty 3)
+    (cond (ltb (headerIn file .table) headerSize || ltb (length file) (tableEnd file)) (faulty 4)
+    sound)))
+
+abbrev pub openBy : Verdict → Header → OpenSaid
+openBy sound h = opens (h .count) (h .shop) (h .table)
+openBy (faulty n) h = refusesFile n
 
 abbrev pub openSays : List ℕ → OpenSaid
-openSays file =
-    cond (eqb (openFault file) 0)
-    (opens (headerIn file .count) (headerIn file .shop) (headerIn file .table))
-    (refusesFile (openFault file))
+openSays file = openBy (openFault file) (headerIn file)

@@ -1,7 +1,6 @@
 // Opening a spool file, and finding a frame in it (rules 7.5 and 7.6). It promises the refusals in their
 // order for any bytes at all, every field of what it reads, and where in the lent file a frame's pixels
 // lie; it asks nothing of a caller.
-use records::Checked;
 use records::FRAME_LIMIT;
 use records::FrameRecord;
 use records::HEADER_SIZE;
@@ -12,6 +11,7 @@ use records::check_record;
 use records::pixel_bytes;
 use records::read_header;
 use records::read_record;
+use refusal::Checked;
 use refusal::Refusal;
 ghost use mathlib.Core.Path.{_≡_};
 ghost use Rattle.spool.specs.Open.{openSaid, openSays};

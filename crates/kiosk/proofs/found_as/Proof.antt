@@ -11,6 +11,7 @@ use Rattle.kiosk.proofs.Counts.{frame-counts}
 use borrow.Author.Needs.{needs}
 use Rattle.kiosk.proofs.found_as.Statement.{statement}
 use Rattle.kiosk.proofs.found_as.Tie as tie
+use Rattle.records.specs.Layout.{recordBytes}
 
 enum-known-found : tie.Need-enum-known-found
 enum-known-found c = search needs
@@ -28,6 +29,9 @@ cast-result c =
 
 enum-known-found-2 : tie.Need-enum-known-found-2
 enum-known-found-2 c = search needs
+
+no-record-requires : tie.Need-no-record-requires
+no-record-requires c κs = search needs
 
 record-bytes-requires-2 : tie.Need-record-bytes-requires-2
 record-bytes-requires-2 c κs = search needs
@@ -47,9 +51,9 @@ returns c =
 
 returns-2 : tie.Need-returns-2
 returns-2 c =
-    let is = c .before .before .before .found2 .given .1 in (
+    let is = c .before .before .before .before .found2 .given .1 in (
       toZ-ofZ _ _ (record { sfits = c .refused .ok }) ∙ c .refused .ensures ∙ ap (λ (f : Found). findAnswer (findSaid f)) (sym is),
-      c .before .record-bytes2 .ensures ∙ ap (λ (f : Found). findRecord (findSaid f)) (sym is),
+      c .before .record-bytes2 .ensures ∙ ap recordBytes (c .before .before .no-record .ensures) ∙ ap (λ (f : Found). findRecord (findSaid f)) (sym is),
     )
 
 pub found-as-spec : {M : Type 1} → statement M
@@ -61,6 +65,7 @@ found-as-spec =
     pixel-bytes-requires
     cast-result
     enum-known-found-2
+    no-record-requires
     record-bytes-requires-2
     refused-requires
     returns

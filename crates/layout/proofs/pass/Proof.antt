@@ -52,11 +52,11 @@ use denote.Triple.Walked.{says, Stays, stay-none, stay-none-slice, stay-slice, w
 use denote.Exit.{yes}
 use denote.Triple.Clauses.{ensured, lasts}
 use Rattle.records.specs.declared.FrameRecord.{FrameRecord}
-use Rattle.spool.specs.Find.{noRecord}
 use Rattle.layout.specs.declared.Progress.{Progress}
 use Rattle.layout.specs.HowLaidOut.{State, stateOf, visited, walked}
 use Rattle.records.proofs.FrameRecord as T
 use Rattle.records.proofs.FrameRecord.Laws as T′
+use Rattle.records.specs.Layout.{noRecord}
 use Rattle.layout.proofs.Relent.{Kept, lends-on, comes-home}
 use Rattle.layout.proofs.Passes.{one-more, none-left}
 use Rattle.layout.proofs.Progress as P

@@ -2,7 +2,7 @@
 -- Assumes nothing.
 use mathlib.Core.Path.{sym, ap, _∙_}
 use borrow.Author.Needs.{needs}
-use Rattle.records.specs.Faults.{checked}
+use Rattle.refusal.specs.Answers.{verdict}
 use Rattle.layout.proofs.Written.{visit-faulty, visit-sound, visit-refused, visit-refused-at}
 use Rattle.layout.proofs.visit.Statement.{statement}
 use Rattle.layout.proofs.visit.Tie as tie
@@ -32,7 +32,7 @@ enum-told-3 : tie.Need-enum-told-3
 enum-told-3 c = search needs
 
 returns : tie.Need-returns
-returns c = visit-faulty (c .before .before .before .before .before .before .before .before .args .progress) (c .before .before .before .before .before .before .before .before .args .dst .now) (c .before .before .before .before .before .before .before .before .args .place) (c .before .before .before .before .before .before .before .before .args .frame) (c .before .refusal .given .0 .0) (c .before .before .before .before .before .answer .given .1) (ap checked (sym (c .before .refusal .given .1)) ∙ c .before .before .before .check-record .ensures)
+returns c = visit-faulty (c .before .before .before .before .before .before .before .before .args .progress) (c .before .before .before .before .before .before .before .before .args .dst .now) (c .before .before .before .before .before .before .before .before .args .place) (c .before .before .before .before .before .before .before .before .args .frame) (c .before .refusal .given .0 .0) (c .before .before .before .before .before .answer .given .1) (ap verdict (sym (c .before .refusal .given .1)) ∙ c .before .before .before .check-record .ensures)
 
 same-length : tie.Need-same-length
 same-length c = search needs
@@ -40,7 +40,7 @@ same-length c = search needs
 returns-2 : tie.Need-returns-2
 returns-2 c =
     let start = c .before .before .before .before .before .before .before .before .before .before .before .before .args in
-    visit-sound (start .progress) (start .dst .now) (start .place) (start .frame) (c .before .before .before .before .before .before .before .before .before .answer .given .1) (ap checked (sym (c .before .before .before .before .before .enum-told .given .1)) ∙ c .before .before .before .before .before .before .before .check-record .ensures) (c .grow .ensures) (c .before .before .before .write-record .ensures)
+    visit-sound (start .progress) (start .dst .now) (start .place) (start .frame) (c .before .before .before .before .before .before .before .before .before .answer .given .1) (ap verdict (sym (c .before .before .before .before .before .enum-told .given .1)) ∙ c .before .before .before .before .before .before .before .check-record .ensures) (c .grow .ensures) (c .before .before .before .write-record .ensures)
 
 returns-3 : tie.Need-returns-3
 returns-3 c = visit-refused (c .before .before .before .args .progress) (c .before .before .before .args .dst .now) (c .before .before .before .args .place) (c .before .before .before .args .frame) (c .enum-told2 .given .1)

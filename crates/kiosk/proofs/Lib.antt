@@ -1,3 +1,2 @@
-pub mod Signed
 pub mod Counts
 pub mod Giving

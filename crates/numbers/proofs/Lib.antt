@@ -2,3 +2,4 @@ pub mod Lists
 pub mod Bytes
 pub mod Booleans
 pub mod Writing
+pub mod Sign

@@ -2,11 +2,11 @@
 -- Assumes nothing.
 use mathlib.Core.Path.{sym, ap, subst, _∙_}
 use denote.Ref.{now}
-use mir.ValLaws.{toZ-ofZ}
+use mir.Syntax.{w64}
+use mir.ValLaws.{toZ-ofZ, toZ-pos}
 use Rattle.refusal.specs.declared.Answer.{Answer}
 use Rattle.refusal.specs.Answers.{said}
 use Rattle.kiosk.specs.Interface.{answerOf, placeOf, Countable}
-use Rattle.kiosk.proofs.Signed.{count-fits, count-is}
 use borrow.Author.Needs.{needs}
 use Rattle.kiosk.proofs.answered.Statement.{statement}
 use Rattle.kiosk.proofs.answered.Tie as tie
@@ -15,7 +15,7 @@ enum-known-answer : tie.Need-enum-known-answer
 enum-known-answer c = search needs
 
 cast-result : tie.Need-cast-result
-cast-result c = count-fits _ (subst (λ (a : Answer). Countable (said a)) (c .before .answer .given .1) (c .before .before .before .pre))
+cast-result c = record { sfits = subst (λ (a : Answer). Countable (said a)) (c .before .answer .given .1) (c .before .before .before .pre) }
 
 enum-known-answer-2 : tie.Need-enum-known-answer-2
 enum-known-answer-2 c = search needs
@@ -34,7 +34,7 @@ returns c =
     let start = c .before .before .before in
     let is = c .before .answer .given .1 in
     let here = start .args .place in (
-      count-is _ (subst (λ (a : Answer). Countable (said a)) is (start .pre)) ∙ ap (λ (a : Answer). answerOf (said a)) (sym is),
+      toZ-pos w64 _ (subst (λ (a : Answer). Countable (said a)) is (start .pre)) ∙ ap (λ (a : Answer). answerOf (said a)) (sym is),
       ap (λ (a : Answer). placeOf (said a) (now here)) (sym is),
     )
 

@@ -2,11 +2,11 @@
 -- Assumes nothing.
 use mathlib.Core.Path.{sym, ap, _∙_}
 use lib.IntN.{pos}
-use mir.ValLaws.{toZ-ofZ}
+use mir.Syntax.{w64}
+use mir.ValLaws.{toZ-ofZ, toZ-pos}
 use Rattle.spool.specs.declared.Found.{Found}
 use Rattle.spool.specs.Find.{findSaid}
 use Rattle.kiosk.specs.Interface.{findAnswer, findRecord}
-use Rattle.kiosk.proofs.Signed.{count-fits, count-is}
 use Rattle.kiosk.proofs.Counts.{frame-counts}
 use borrow.Author.Needs.{needs}
 use Rattle.kiosk.proofs.found_as.Statement.{statement}
@@ -25,7 +25,7 @@ pixel-bytes-requires c κs = search needs
 cast-result : tie.Need-cast-result
 cast-result c =
     let r = c .before .before .before .found .given .0 .0 in
-    count-fits (c .pixel-bytes .result) (rw (c .pixel-bytes .ensures) (frame-counts r (search needs) (search needs)))
+    record { sfits = rw (c .pixel-bytes .ensures) (frame-counts r (search needs) (search needs)) }
 
 enum-known-found-2 : tie.Need-enum-known-found-2
 enum-known-found-2 c = search needs
@@ -43,7 +43,7 @@ returns : tie.Need-returns
 returns c =
     let r = c .before .before .before .found .given .0 .0 in
     let is = c .before .before .before .found .given .1 in (
-      count-is (c .pixel-bytes .result) (rw (c .pixel-bytes .ensures) (frame-counts r (search needs) (search needs)))
+      toZ-pos w64 (c .pixel-bytes .result) (rw (c .pixel-bytes .ensures) (frame-counts r (search needs) (search needs)))
           ∙ ap pos (c .pixel-bytes .ensures)
           ∙ ap (λ (f : Found). findAnswer (findSaid f)) (sym is),
       c .before .record-bytes .ensures ∙ ap (λ (f : Found). findRecord (findSaid f)) (sym is),

@@ -2,10 +2,10 @@
 -- Assumes nothing.
 use mathlib.Core.Path.{sym, ap, _∙_}
 use denote.Ref.{now}
-use mir.ValLaws.{toZ-ofZ}
+use mir.Syntax.{w64}
+use mir.ValLaws.{toZ-ofZ, toZ-pos}
 use Rattle.spool.specs.Open.{OpenSaid, openSaid}
 use Rattle.kiosk.specs.Interface.{openAnswer, openShop, openTable}
-use Rattle.kiosk.proofs.Signed.{count-is}
 use borrow.Author.Needs.{needs}
 use Rattle.kiosk.proofs.kiosk_open.Statement.{statement}
 use Rattle.kiosk.proofs.kiosk_open.Tie as tie
@@ -29,7 +29,7 @@ returns : tie.Need-returns
 returns c =
     let start = c .before .before .before .before .before .before in
     let says = ap openSaid (sym (c .before .before .opened .given .1)) ∙ c .before .before .before .before .open .ensures in (
-      count-is _ (search needs) ∙ ap openAnswer says,
+      toZ-pos w64 _ (search needs) ∙ ap openAnswer says,
       (
         ap (λ (s : OpenSaid). openShop s (now (start .args .shop))) says,
         ap (λ (s : OpenSaid). openTable s (now (start .args .table))) says,

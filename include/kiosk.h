@@ -38,23 +38,23 @@
 extern "C" {
 #endif
 
-/* Why an operation refuses (rule 8). The functions return minus this number. */
+/* Why an operation refuses (rules, section 8). The functions return minus this number. */
 enum kiosk_refusal {
-    KIOSK_TOO_SHORT = 1,          /* a spool shorter than its header */
-    KIOSK_WRONG_LENGTH = 2,       /* the length in the header is not the file's */
-    KIOSK_TOO_MANY_FRAMES = 3,    /* more than 255 frames */
-    KIOSK_TABLE_OUTSIDE = 4,      /* the record table is not inside the file behind the header */
-    KIOSK_NO_SUCH_FRAME = 5,      /* no frame has this number */
-    KIOSK_UNKNOWN_KIND = 6,       /* kind and bits are no pair that a picture has */
-    KIOSK_WRONG_SIZE = 7,         /* a width or height of 0 or above 8,192 */
-    KIOSK_PIXELS_OUTSIDE = 8,     /* the pixels are not inside the file behind the header */
-    KIOSK_DEPTH_NOT_OFFERED = 9,  /* a depth that is not offered */
-    KIOSK_NOT_WHOLE_PIXELS = 10,  /* the source is not a whole number of pixels */
-    KIOSK_WRONG_ROOM = 11,        /* the destination has not exactly the length needed */
-    KIOSK_SAMPLE_TOO_GREAT = 12,  /* a sample above the greatest of its depth; place: its byte offset */
-    KIOSK_CHROMA_ZERO = 13,       /* a chroma of code 0; place: its byte offset */
-    KIOSK_TOTAL_TOO_LONG = 14,    /* a spool longer than 4,294,967,295 bytes */
-    KIOSK_INPUT_TOO_LONG = 15     /* a file too long for the listing: only its text says so */
+    KIOSK_TOO_SHORT = 1,                 /* a spool shorter than its header */
+    KIOSK_WRONG_FILE_LENGTH = 2,         /* the length in the header is not the file's */
+    KIOSK_TOO_MANY_FRAMES = 3,           /* more than 255 frames */
+    KIOSK_TABLE_OUTSIDE = 4,             /* the record table is not inside the file behind the header */
+    KIOSK_NO_SUCH_FRAME = 5,             /* no frame has this number */
+    KIOSK_UNKNOWN_KIND = 6,              /* kind and bits are no pair that a picture has */
+    KIOSK_WRONG_SIZE = 7,                /* a width or height of 0 or above 8,192 */
+    KIOSK_PIXELS_OUTSIDE = 8,            /* the pixels are not inside the file behind the header */
+    KIOSK_DEPTH_NOT_OFFERED = 9,         /* a depth that is not offered */
+    KIOSK_NOT_WHOLE_PIXELS = 10,         /* the source is not a whole number of pixels */
+    KIOSK_WRONG_DESTINATION_LENGTH = 11, /* the destination has not exactly the length needed */
+    KIOSK_SAMPLE_TOO_GREAT = 12,         /* a sample above the greatest of its depth; place: its byte offset */
+    KIOSK_CHROMA_ZERO = 13,              /* a chroma of code 0; place: its byte offset */
+    KIOSK_TOTAL_TOO_LONG = 14,           /* a spool longer than 4,294,967,295 bytes */
+    KIOSK_INPUT_TOO_LONG = 15            /* a file too long for the listing: only its text says so */
 };
 
 /* What a frame's pixels are (rule 7.3). */

@@ -108,7 +108,7 @@ fn begin(count: usize, shop: u16, pixels: usize, dst: &mut [u8]) -> Progress
         return stop(Answer::Refused(Refusal::TotalTooLong));
     }
     if dst.len() != total {
-        return stop(Answer::Refused(Refusal::WrongRoom));
+        return stop(Answer::Refused(Refusal::WrongDestinationLength));
     }
     let header = Header {
         count: count as u16,

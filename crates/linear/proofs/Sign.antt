@@ -1,6 +1,6 @@
--- The machine's signed numbers of 32 bits: a sign put on, and a sign taken away.
+-- The machine's signed numbers of 32 bits: a sign taken away, in 64 bits.
 -- Assumes nothing.
-use Prim.Native.Nat.{ℕ, zero, suc, _<_, _^_}
+use Prim.Native.Nat.{ℕ, zero, suc}
 use mathlib.Core.Path.{_≡_, refl, sym, ap, _∙_}
 use mathlib.Core.Bool.{Bool, true, false, false≢true}
 use native.Mathlib.Omega.{arith}
@@ -10,24 +10,8 @@ use lib.IntN.{ℤ, pos, negsuc, negℤ, natAbs, _-ℤ_, +ℤ-idl}
 use lib.Signed.{ltZ, nonNeg}
 use mir.Syntax.{w32, w64}
 use mir.Val.{Fits, SFits, toZ, ofZ}
-use mir.ValLaws.{toZ-ofZ, toZ-pos}
+use mir.ValLaws.{toZ-ofZ}
 
--- ---- put on
-neg-fits : (m : ℕ) → m < 2 ^ 31 → SFits w32 (negℤ (pos m))
-neg-fits zero h = record { sfits = omega arith }
-neg-fits (suc k) h = record { sfits = omega arith }
-
-module _ (m : ℕ) (h : m < 2 ^ 31) where
-  opposite : pos 0 -ℤ toZ w32 m ≡ negℤ (pos m)
-  opposite = ap (λ (z : ℤ). pos 0 -ℤ z) (toZ-pos w32 m h) ∙ +ℤ-idl (negℤ (pos m))
-
-  pub opposite-fits : SFits w32 (pos 0 -ℤ toZ w32 m)
-  opposite-fits = rw opposite (neg-fits m h)
-
-  pub opposite-is : toZ w32 (ofZ w32 (pos 0 -ℤ toZ w32 m)) ≡ negℤ (pos m)
-  opposite-is = toZ-ofZ w32 _ opposite-fits ∙ opposite
-
--- ---- taken away, in 64 bits
 pub not-negative : (k : ℕ) → ltZ (pos k) (pos 0) ≡ true → ⊥
 not-negative k e = omega (arith, ltb-true k 0 e)
 

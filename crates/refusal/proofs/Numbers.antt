@@ -4,14 +4,14 @@ use mathlib.Core.Path.{_≡_, refl}
 use mathlib.Core.Bool.{false}
 use lib.Dec.{eqb}
 use Rattle.refusal.specs.declared.Refusal.{Refusal}
-use Rattle.refusal.specs.declared.Refusal.the-variants.{TooShort, WrongLength, TooManyFrames, TableOutside, NoSuchFrame}
+use Rattle.refusal.specs.declared.Refusal.the-variants.{TooShort, WrongFileLength, TooManyFrames, TableOutside, NoSuchFrame}
 use Rattle.refusal.specs.declared.Refusal.the-variants.{UnknownKind, WrongSize, PixelsOutside, DepthNotOffered, NotWholePixels}
-use Rattle.refusal.specs.declared.Refusal.the-variants.{WrongRoom, SampleTooGreat, ChromaZero, TotalTooLong, InputTooLong}
+use Rattle.refusal.specs.declared.Refusal.the-variants.{WrongDestinationLength, SampleTooGreat, ChromaZero, TotalTooLong, InputTooLong}
 use Rattle.refusal.specs.Refusals.{numberOf}
 
 pub numbered : (r : Refusal) → eqb (numberOf r) 0 ≡ false
 numbered TooShort = refl
-numbered WrongLength = refl
+numbered WrongFileLength = refl
 numbered TooManyFrames = refl
 numbered TableOutside = refl
 numbered NoSuchFrame = refl
@@ -20,7 +20,7 @@ numbered WrongSize = refl
 numbered PixelsOutside = refl
 numbered DepthNotOffered = refl
 numbered NotWholePixels = refl
-numbered WrongRoom = refl
+numbered WrongDestinationLength = refl
 numbered SampleTooGreat = refl
 numbered ChromaZero = refl
 numbered TotalTooLong = refl

@@ -2,13 +2,13 @@
 -- Assumes nothing.
 use Prim.Native.Nat.{ℕ}
 use Rattle.refusal.specs.declared.Refusal.{Refusal}
-use Rattle.refusal.specs.declared.Refusal.the-variants.{TooShort, WrongLength, TooManyFrames, TableOutside, NoSuchFrame}
+use Rattle.refusal.specs.declared.Refusal.the-variants.{TooShort, WrongFileLength, TooManyFrames, TableOutside, NoSuchFrame}
 use Rattle.refusal.specs.declared.Refusal.the-variants.{UnknownKind, WrongSize, PixelsOutside, DepthNotOffered, NotWholePixels}
-use Rattle.refusal.specs.declared.Refusal.the-variants.{WrongRoom, SampleTooGreat, ChromaZero, TotalTooLong, InputTooLong}
+use Rattle.refusal.specs.declared.Refusal.the-variants.{WrongDestinationLength, SampleTooGreat, ChromaZero, TotalTooLong, InputTooLong}
 
 abbrev pub numberOf : Refusal → ℕ
 numberOf TooShort = 1
-numberOf WrongLength = 2
+numberOf WrongFileLength = 2
 numberOf TooManyFrames = 3
 numberOf TableOutside = 4
 numberOf NoSuchFrame = 5
@@ -17,7 +17,7 @@ numberOf WrongSize = 7
 numberOf PixelsOutside = 8
 numberOf DepthNotOffered = 9
 numberOf NotWholePixels = 10
-numberOf WrongRoom = 11
+numberOf WrongDestinationLength = 11
 numberOf SampleTooGreat = 12
 numberOf ChromaZero = 13
 numberOf TotalTooLong = 14

@@ -9,7 +9,7 @@ pub enum Refusal {
     // 1: a spool shorter than its header.
     TooShort,
     // 2: the length in the header is not the file's.
-    WrongLength,
+    WrongFileLength,
     // 3: more frames than a spool may have.
     TooManyFrames,
     // 4: the record table is not inside the file behind the header.
@@ -27,7 +27,7 @@ pub enum Refusal {
     // 10: the source is not a whole number of pixels.
     NotWholePixels,
     // 11: the destination has not exactly the length needed.
-    WrongRoom,
+    WrongDestinationLength,
     // 12: a sample above the greatest of its depth.
     SampleTooGreat,
     // 13: a chroma of code 0.
@@ -44,7 +44,7 @@ pub fn number(refusal: Refusal) -> u8
 {
     match refusal {
         Refusal::TooShort => 1,
-        Refusal::WrongLength => 2,
+        Refusal::WrongFileLength => 2,
         Refusal::TooManyFrames => 3,
         Refusal::TableOutside => 4,
         Refusal::NoSuchFrame => 5,
@@ -53,7 +53,7 @@ pub fn number(refusal: Refusal) -> u8
         Refusal::PixelsOutside => 8,
         Refusal::DepthNotOffered => 9,
         Refusal::NotWholePixels => 10,
-        Refusal::WrongRoom => 11,
+        Refusal::WrongDestinationLength => 11,
         Refusal::SampleTooGreat => 12,
         Refusal::ChromaZero => 13,
         Refusal::TotalTooLong => 14,

@@ -207,10 +207,10 @@ pub fn count_pixels(wide_in: bool, wide_out: bool, len: usize, room: usize) -> A
     }
     let needed = pixel_size(wide_out);
     if room % needed != 0 {
-        return Answer::Refused(Refusal::WrongRoom);
+        return Answer::Refused(Refusal::WrongDestinationLength);
     }
     if room / needed != len / size {
-        return Answer::Refused(Refusal::WrongRoom);
+        return Answer::Refused(Refusal::WrongDestinationLength);
     }
     Answer::Done(len / size)
 }

@@ -39,7 +39,7 @@ pub fn open(file: &[u8]) -> Opened
             let count = header.count as usize;
             let table = header.table as usize;
             if header.length as usize != file.len() {
-                return Opened::Refused(Refusal::WrongLength);
+                return Opened::Refused(Refusal::WrongFileLength);
             }
             if FRAME_LIMIT < count {
                 return Opened::Refused(Refusal::TooManyFrames);

@@ -7,7 +7,7 @@ use std::fmt;
 #[derive(Clone, Copy, Debug, PartialEq, Eq, PartialOrd, Ord)]
 pub enum Fault {
     TooShort = 1,
-    WrongLength,
+    WrongFileLength,
     TooManyFrames,
     TableOutside,
     NoSuchFrame,
@@ -16,7 +16,7 @@ pub enum Fault {
     PixelsOutside,
     DepthNotOffered,
     NotWholePixels,
-    WrongRoom,
+    WrongDestinationLength,
     SampleTooGreat,
     ChromaZero,
     TotalTooLong,
@@ -27,7 +27,7 @@ impl Fault {
     /// All faults, each at its number less one.
     pub const ALL: [Fault; 15] = [
         Fault::TooShort,
-        Fault::WrongLength,
+        Fault::WrongFileLength,
         Fault::TooManyFrames,
         Fault::TableOutside,
         Fault::NoSuchFrame,
@@ -36,7 +36,7 @@ impl Fault {
         Fault::PixelsOutside,
         Fault::DepthNotOffered,
         Fault::NotWholePixels,
-        Fault::WrongRoom,
+        Fault::WrongDestinationLength,
         Fault::SampleTooGreat,
         Fault::ChromaZero,
         Fault::TotalTooLong,
@@ -56,7 +56,7 @@ impl Fault {
     fn words(self) -> &'static str {
         match self {
             Fault::TooShort => "the spool is shorter than its header",
-            Fault::WrongLength => "the length in the header is not the file's",
+            Fault::WrongFileLength => "the length in the header is not the file's",
             Fault::TooManyFrames => "a spool has at most 255 frames",
             Fault::TableOutside => "the record table is not inside the file behind the header",
             Fault::NoSuchFrame => "no frame has this number",
@@ -65,7 +65,7 @@ impl Fault {
             Fault::PixelsOutside => "the pixels are not inside the file behind the header",
             Fault::DepthNotOffered => "this depth is not offered",
             Fault::NotWholePixels => "the source is not a whole number of pixels",
-            Fault::WrongRoom => "the destination has not exactly the length needed",
+            Fault::WrongDestinationLength => "the destination has not exactly the length needed",
             Fault::SampleTooGreat => "a sample is above the greatest of its depth",
             Fault::ChromaZero => "a chroma sample has code 0",
             Fault::TotalTooLong => "the spool would be longer than 4,294,967,295 bytes",

@@ -60,7 +60,7 @@ static void pictures(void)
     memcpy(back, codes, sizeof codes);
     CHECK(kiosk_from_srgb(11, srgb, sizeof srgb, back, sizeof back, &place) == -KIOSK_DEPTH_NOT_OFFERED);
     CHECK(kiosk_from_srgb(10, srgb, 5, back, sizeof back, &place) == -KIOSK_NOT_WHOLE_PIXELS);
-    CHECK(kiosk_from_srgb(10, srgb, sizeof srgb, back, 11, &place) == -KIOSK_WRONG_ROOM);
+    CHECK(kiosk_from_srgb(10, srgb, sizeof srgb, back, 11, &place) == -KIOSK_WRONG_DESTINATION_LENGTH);
     CHECK(place == 77);
     put_code(codes, 4, 1024);
     CHECK(kiosk_to_luma_chroma(10, codes, sizeof codes, back, sizeof back, &place) == -KIOSK_SAMPLE_TOO_GREAT);
@@ -149,7 +149,7 @@ static void light(void)
     CHECK(code_at(again, 0) == 1618 && code_at(again, 1) == 1619);
     CHECK(code_at(again, 2) == 0 && code_at(again, 3) == 4095);
     CHECK(kiosk_code_to_light(16, codes, sizeof codes, numbers, 6, &place) == -KIOSK_DEPTH_NOT_OFFERED);
-    CHECK(kiosk_light_to_code(12, numbers, 6, again, 11) == -KIOSK_WRONG_ROOM);
+    CHECK(kiosk_light_to_code(12, numbers, 6, again, 11) == -KIOSK_WRONG_DESTINATION_LENGTH);
     CHECK(place == 77);
     put_code(codes, 5, 4096);
     CHECK(kiosk_code_to_light(12, codes, sizeof codes, numbers, 6, &place) == -KIOSK_SAMPLE_TOO_GREAT);
@@ -170,7 +170,7 @@ static void spools(void)
 
     CHECK(sizeof record == 16);
     memset(file, 0x5a, sizeof file);
-    CHECK(kiosk_lay_out(records, 2, 7, file, 55, &place) == -KIOSK_WRONG_ROOM);
+    CHECK(kiosk_lay_out(records, 2, 7, file, 55, &place) == -KIOSK_WRONG_DESTINATION_LENGTH);
     CHECK(file[0] == 0x5a);
     CHECK(kiosk_lay_out(records, 2, 7, file, sizeof file, &place) == 56);
     CHECK(file[44] == 0x5a && file[55] == 0x5a);
@@ -194,7 +194,7 @@ static void spools(void)
     CHECK(kiosk_lay_out(records, 2, 7, file, sizeof file, &place) == 56);
 
     CHECK(kiosk_open(file, 11, &shop, &table) == -KIOSK_TOO_SHORT);
-    CHECK(kiosk_open(file, 55, &shop, &table) == -KIOSK_WRONG_LENGTH);
+    CHECK(kiosk_open(file, 55, &shop, &table) == -KIOSK_WRONG_FILE_LENGTH);
     CHECK(shop == 7 && table == 12);
     records[1].bits = 8;
     CHECK(kiosk_lay_out(records, 2, 7, file, sizeof file, &place) == -KIOSK_UNKNOWN_KIND);

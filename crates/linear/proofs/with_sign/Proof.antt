@@ -2,7 +2,7 @@
 -- Assumes nothing.
 use mir.Syntax.{w32}
 use mir.ValLaws.{toZ-pos}
-use Rattle.linear.proofs.Sign.{opposite-fits, opposite-is}
+use Rattle.numbers.proofs.Sign.{opposite-fits, opposite-is}
 use borrow.Author.Needs.{needs}
 use Rattle.linear.proofs.with_sign.Statement.{statement}
 use Rattle.linear.proofs.with_sign.Tie as tie
@@ -11,10 +11,10 @@ cast-value : tie.Need-cast-value
 cast-value c = search needs
 
 sub-result : tie.Need-sub-result
-sub-result c = opposite-fits _ (c .before .pre)
+sub-result c = opposite-fits w32 _ (c .before .pre)
 
 returns : tie.Need-returns
-returns c = rw (c .if1 .taken) (opposite-is _ (c .before .pre))
+returns c = rw (c .if1 .taken) (opposite-is w32 _ (c .before .pre))
 
 returns-2 : tie.Need-returns-2
 returns-2 c = rw (c .if1 .left) (toZ-pos w32 _ (c .before .pre))

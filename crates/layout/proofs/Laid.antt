@@ -16,8 +16,8 @@ use Rattle.records.specs.declared.FrameRecord.{FrameRecord}
 use Rattle.records.specs.Layout.{headerBytes, headerSize}
 use Rattle.records.specs.Faults.{frameLimit}
 use Rattle.layout.specs.declared.Progress.{Progress}
-use Rattle.layout.specs.LayOut.{lengthLimit, pixelsFrom, allPixels, totalLength, recordsSay, layoutSays, placed, tableBytes, headerOf, layoutBytes}
-use Rattle.layout.specs.HowLaidOut.{State, stateOf, recordPlace, walked, stopped, readied, laid}
+use Rattle.layout.specs.LayOut.{lengthLimit, pixelsFrom, allPixels, totalLength, recordsSay, layoutSays, placed, tableBytes, headerOf, layoutBytes, recordPlace}
+use Rattle.layout.specs.HowLaidOut.{State, stateOf, walked, stopped, readied, laid}
 use Rattle.layout.proofs.Checking.{stays-refused, stays-refused-at, Fine, summed, Checked, atFault, fine, check, sum-fits, sum-past}
 use Rattle.layout.proofs.Writing.{over-length, over-take, over-drop, write-all}
 

@@ -13,8 +13,8 @@ use Rattle.refusal.specs.Answers.{sound, accepted}
 use Rattle.records.specs.declared.FrameRecord.{FrameRecord}
 use Rattle.records.specs.Layout.{recordBytes, recordSize, withOffset}
 use Rattle.records.specs.Faults.{pixelBytes, recordFault, frameLimit}
-use Rattle.layout.specs.LayOut.{allPixels, placed, tableBytes, lengthLimit}
-use Rattle.layout.specs.HowLaidOut.{recordPlace, visited, walked}
+use Rattle.layout.specs.LayOut.{allPixels, placed, tableBytes, lengthLimit, recordPlace}
+use Rattle.layout.specs.HowLaidOut.{visited, walked}
 use Rattle.layout.proofs.Written.{in-place}
 use Rattle.layout.proofs.Checking.{Fine, none, one}
 

@@ -16,8 +16,8 @@ use Rattle.records.specs.declared.FrameRecord.{FrameRecord}
 use Rattle.records.specs.Layout.{recordSize, withOffset, recordBytes}
 use Rattle.records.specs.Faults.{pixelBytes, recordFault, frameLimit}
 use Rattle.layout.specs.declared.Progress.{Progress}
-use Rattle.layout.specs.LayOut.{lengthLimit}
-use Rattle.layout.specs.HowLaidOut.{stateOf, grown, recordPlace, recordWritten, visited}
+use Rattle.layout.specs.LayOut.{lengthLimit, recordPlace}
+use Rattle.layout.specs.HowLaidOut.{stateOf, grown, recordWritten, visited}
 
 -- Bytes copied to the start of a list.
 pub copied : (d : List ℕ) {bytes b d′ : List ℕ} → bytes ≡ b → d′ ≡ take (length bytes) bytes ++ drop (length bytes) d → d′ ≡ b ++ drop (length b) d

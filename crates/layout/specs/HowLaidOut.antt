@@ -2,7 +2,7 @@
 -- comes to what `LayOut` says. What a function leaves has the participle of its name: `visit` and `visited`, `write_record` and
 -- `recordWritten`.
 -- Assumes nothing.
-use Prim.Native.Nat.{ℕ, _+_, _*_}
+use Prim.Native.Nat.{ℕ, _+_}
 use mathlib.Core.Bool.{Bool, true, false, cond}
 use mathlib.Core.List.{List, [], _∷_, _++_}
 use lib.ListN.{length, take, drop}
@@ -12,7 +12,7 @@ use Rattle.records.specs.declared.FrameRecord.{FrameRecord}
 use Rattle.records.specs.Layout.{headerSize, recordSize, withOffset, headerBytes, recordBytes}
 use Rattle.records.specs.Faults.{frameLimit, pixelBytes, recordFault}
 use Rattle.layout.specs.declared.Progress.{Progress}
-use Rattle.layout.specs.LayOut.{lengthLimit, pixelsFrom, headerOf}
+use Rattle.layout.specs.LayOut.{lengthLimit, recordPlace, pixelsFrom, headerOf}
 use Rattle.samples.specs.Faults.{decides}
 
 -- What a pass has: whether it writes, what it says so far, accepted with the offset behind the pixels placed so far, and
@@ -28,10 +28,6 @@ stateOf p bytes = record { writing = p .writing; says = said (p .answer); bytes 
 -- A sum that no longer grows once it is past the limit.
 abbrev pub grown : ℕ → ℕ → ℕ
 grown end more = cond (ltb lengthLimit end) end (end + more)
-
--- Where record number `place` stands.
-abbrev pub recordPlace : ℕ → ℕ
-recordPlace place = headerSize + recordSize * place
 
 -- The destination with a record written at its place, where it is to be written and fits.
 unfoldable pub recordWritten : Bool → ℕ → ℕ → FrameRecord → List ℕ → List ℕ

@@ -16,9 +16,12 @@ use Rattle.samples.specs.Faults.{decides}
 abbrev pub lengthLimit : ℕ
 lengthLimit = 4294967295
 
--- The table stands right behind the header, and the pixels right behind the table.
+-- The table stands right behind the header: where its record k stands. The pixels stand right behind the table.
+abbrev pub recordPlace : ℕ → ℕ
+recordPlace k = headerSize + recordSize * k
+
 abbrev pub pixelsFrom : ℕ → ℕ
-pixelsFrom count = headerSize + recordSize * count
+pixelsFrom count = recordPlace count
 
 abbrev pub allPixels : List FrameRecord → ℕ
 allPixels [] = 0

@@ -36,7 +36,7 @@ decimal-short (suc d) n h = by-test (ltb n 10) refl (decimal-short d (n / 10)) w
 -- The answers of Find that a file of bytes gives.
 abbrev Short : FindSaid → Type 0
 Short (finds r) = Small r
-Short (refusesFrame n r) = n < 100
+Short (refusesFrame n r) = TwoDigits (faulty n)
 
 -- No line is longer.
 abbrev lineRoom : ℕ

@@ -25,7 +25,7 @@ abbrev pub TwoDigits : Verdict → Type 0
 TwoDigits sound = Unit
 TwoDigits (faulty n) = n < 100
 
-pub test-short : (b : Bool) (n : ℕ) (v : Verdict) → n < 100 → TwoDigits v → TwoDigits (cond b (faulty n) v)
+pub test-short : (b : Bool) (n : ℕ) (v : Verdict) → TwoDigits (faulty n) → TwoDigits v → TwoDigits (cond b (faulty n) v)
 test-short true n v p q = p
 test-short false n v p q = q
 

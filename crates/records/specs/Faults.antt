@@ -16,7 +16,7 @@ frameLimit = 255
 abbrev pub isPair : ℕ → ℕ → Bool
 isPair kind bits = cond (eqb kind 1) (eqb bits 8) (cond (eqb kind 2 || eqb kind 3) (offered bits) false)
 
--- Rule 7.4: the greatest width and height, and one that no frame has.
+-- Rule 7.4: the greatest width and height, and a side that no frame has.
 abbrev pub sideLimit : ℕ
 sideLimit = 8192
 

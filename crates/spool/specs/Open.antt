@@ -36,6 +36,7 @@ openFault file =
     (cond (ltb (headerIn file .table) headerSize || ltb (length file) (tableEnd file)) (faulty 4)
     sound)))
 
+-- The answer, by the verdict on the file and by its header.
 abbrev pub openBy : Verdict → Header → OpenSaid
 openBy sound h = opens (h .count) (h .shop) (h .table)
 openBy (faulty n) h = refusesFile n

@@ -10,7 +10,7 @@ use Rattle.layout.proofs.Written.{copied, put-there, not-writing, past-
 use borrow.Author.Needs.{needs}
 use Rattle.layout.proofs.write_record.Statement.{statement}
 use Rattle.layout.proofs.write_record.Tie as tie
-use Rattle.layout.specs.HowLaidOut.{recordPlace}
+use Rattle.layout.specs.LayOut.{recordPlace}
 
 returns : tie.Need-returns
 returns c = rw (not-true (c .before .before .args .writing) (c .if1 .taken)) (not-writing (c .before .before .args .place) (c .before .before .args .end) (c .before .before .args .frame) (c .before .before .args .dst .now))

@@ -34,9 +34,6 @@ quotient-is false room pixels h = omega arith
 
 -- What the tests lead to.
 module _ (wideIn wideOut : Bool) (len room : ℕ) (samples : Said) where
-  pub says-9 : (offered : Bool) → offered ≡ false → inOrder offered wideIn wideOut len room samples ≡ refused 9
-  says-9 offered h = rw h
-
   pub says-10 : (len % pixelSize wideIn ≡ 0 → ⊥) → inOrder true wideIn wideOut len room samples ≡ refused 10
   says-10 h = rw (ne-eqb _ 0 h)
 

@@ -9,11 +9,11 @@ use native.Mathlib.Omega.{arith}
 use lib.Dec.{eqb, ltb, lit<}
 use borrow.Author.Tests.{ltb-false}
 use lib.ListN.{length}
-use Rattle.refusal.specs.Answers.{Verdict, sound, faulty, Said, accepted, refused}
+use Rattle.refusal.specs.Answers.{Verdict, sound, faulty, Said, accepted, refused, decides}
 use Rattle.samples.specs.declared.Coding.{Coding}
 use Rattle.samples.specs.declared.Coding.the-variants.{Codes}
 use Rattle.samples.specs.Samples.{place, pixelSize, samplesOf}
-use Rattle.samples.specs.Faults.{wideCoding, fault, decides, samplesSay, inOrder, sourceSays}
+use Rattle.samples.specs.Faults.{wideCoding, fault, samplesSay, inOrder, sourceSays}
 use Rattle.esrgb.specs.Depths.{greatest}
 use Rattle.picture.specs.declared.Conversion.{Conversion}
 use Rattle.picture.specs.Forms.{codingOf, wideForm}

@@ -7,13 +7,12 @@ use mathlib.Core.Bool.{Bool, true, false, cond}
 use mathlib.Core.List.{List, [], _∷_, _++_}
 use lib.ListN.{length, take, drop}
 use lib.Dec.{eqb, leb, ltb}
-use Rattle.refusal.specs.Answers.{Said, accepted, refused, refusedAt, said, leaves}
+use Rattle.refusal.specs.Answers.{Said, accepted, refused, refusedAt, said, leaves, decides}
 use Rattle.records.specs.declared.FrameRecord.{FrameRecord}
 use Rattle.records.specs.Layout.{headerSize, recordSize, withOffset, headerBytes, recordBytes}
 use Rattle.records.specs.Faults.{frameLimit, pixelBytes, recordFault}
 use Rattle.layout.specs.declared.Progress.{Progress}
 use Rattle.layout.specs.LayOut.{lengthLimit, recordPlace, pixelsFrom, headerOf}
-use Rattle.samples.specs.Faults.{decides}
 
 -- What a pass has: whether it writes, what it says so far, accepted with the offset behind the pixels placed so far, and
 -- the destination.

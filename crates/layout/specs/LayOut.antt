@@ -5,12 +5,11 @@ use mathlib.Core.Bool.{cond}
 use mathlib.Core.List.{List, [], _∷_, _++_}
 use lib.ListN.{length, drop}
 use lib.Dec.{eqb, ltb}
-use Rattle.refusal.specs.Answers.{Said, accepted, refused}
+use Rattle.refusal.specs.Answers.{Said, accepted, refused, decides}
 use Rattle.records.specs.declared.FrameRecord.{FrameRecord}
 use Rattle.records.specs.declared.Header.{Header}
 use Rattle.records.specs.Layout.{headerSize, recordSize, withOffset, headerBytes, recordBytes}
 use Rattle.records.specs.Faults.{frameLimit, pixelBytes, recordFault}
-use Rattle.samples.specs.Faults.{decides}
 
 -- 14: the greatest length that a header can say.
 abbrev pub lengthLimit : ℕ

@@ -8,9 +8,9 @@ use native.Mathlib.Omega.{arith}
 use borrow.Author.Tests.{ne-eqb, ltb-false}
 use lib.Dec.{ltb}
 use lib.ListN.{getD}
-use Rattle.refusal.specs.Answers.{faulty, sound, Said, accepted, refusedAt}
+use Rattle.refusal.specs.Answers.{faulty, sound, Said, accepted, refusedAt, decides}
 use Rattle.samples.specs.declared.Coding.the-variants.{Codes}
-use Rattle.samples.specs.Faults.{fault, decides, samplesSay}
+use Rattle.samples.specs.Faults.{fault, samplesSay}
 use Rattle.transfer.specs.Light.{offersLight}
 
 pub not-offered : (n : ℕ) → (n ≡ 10 → ⊥) → (n ≡ 12 → ⊥) → offersLight n ≡ false

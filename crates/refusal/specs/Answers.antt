@@ -32,6 +32,11 @@ said (Done n) = accepted n
 said (Refused r) = refused (numberOf r)
 said (RefusedAt r at) = refusedAt (numberOf r) at
 
+-- What is said of something at a place: its fault and the place, or what the rest says.
+abbrev pub decides : Verdict → ℕ → Said → Said
+decides sound at rest = rest
+decides (faulty number) at rest = refusedAt number at
+
 -- What the destination holds afterwards: what the operation writes if it accepts, and what was there if it refuses.
 abbrev pub leaves : {A : Type 0} → Said → List A → List A → List A
 leaves (accepted n) new old = new

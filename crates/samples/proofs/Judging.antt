@@ -11,12 +11,12 @@ use lib.Dec.{ltb, eqb}
 use lib.ListN.{length, getD, drop}
 use lib.Seq.{drop-cons}
 use Rattle.numbers.proofs.Booleans.{or-false, and-true, and-false}
-use Rattle.refusal.specs.Answers.{sound, Said}
+use Rattle.refusal.specs.Answers.{sound, Said, decides}
 use Rattle.samples.specs.declared.Pixel.{Pixel}
 use Rattle.samples.specs.declared.Coding.{Coding}
 use Rattle.samples.specs.declared.Coding.the-variants.{Bytes, Codes}
 use Rattle.samples.specs.Samples.{place, pixelSize, twoByTwo, samplesOf, pixel, noPixel, pixelsOf, read}
-use Rattle.samples.specs.Faults.{wideCoding, fault, decides, samplesSay}
+use Rattle.samples.specs.Faults.{wideCoding, fault, samplesSay}
 use Rattle.samples.specs.HowJudged.{leastOf, allWithin, atFault, SoundTo}
 use Rattle.samples.proofs.Reading.{length-two, pixel-at}
 

@@ -7,7 +7,7 @@ use mathlib.Core.Bool.{Bool, true, false, cond, not, _&&_}
 use mathlib.Core.List.{List, [], _∷_}
 use lib.Dec.{eqb, ltb}
 use lib.ListN.{length}
-use Rattle.refusal.specs.Answers.{Verdict, sound, faulty, Said, accepted, refused, refusedAt}
+use Rattle.refusal.specs.Answers.{Verdict, sound, faulty, Said, accepted, refused, decides}
 use Rattle.samples.specs.declared.Coding.{Coding}
 use Rattle.samples.specs.declared.Coding.the-variants.{Bytes, Codes}
 use Rattle.samples.specs.Samples.{place, pixelSize, samplesOf}
@@ -22,10 +22,6 @@ wideCoding (Codes greatest chroma) = true
 unfoldable pub fault : Coding → ℕ → ℕ → Verdict
 fault Bytes k x = sound
 fault (Codes greatest chroma) k x = cond (ltb greatest x) (faulty 12) (cond (chroma && (not (eqb (k % 3) 0) && eqb x 0)) (faulty 13) sound)
-
-abbrev pub decides : Verdict → ℕ → Said → Said
-decides sound at rest = rest
-decides (faulty number) at rest = refusedAt number at
 
 -- Rule 4.3, of samples xs, the first of which is the k-th: the first fault and its place, or `done` if there is none.
 unfoldable pub samplesSay : Coding → Said → ℕ → List ℕ → Said

@@ -8,9 +8,9 @@ use Rattle.samples.specs.declared.Coding.the-variants.{Codes}
 use Rattle.samples.proofs.Reading.{length-two}
 use Rattle.samples.proofs.Judging.{say-at}
 use borrow.Author.Needs.{needs}
-use Rattle.refusal.specs.Answers.{verdict, accepted}
+use Rattle.refusal.specs.Answers.{verdict, accepted, decides}
 use Rattle.samples.specs.Samples.{twoByTwo}
-use Rattle.samples.specs.Faults.{fault, decides, samplesSay}
+use Rattle.samples.specs.Faults.{fault, samplesSay}
 use Rattle.samples.proofs.first_fault.Statement.{statement}
 use Rattle.samples.proofs.first_fault.Tie as tie
 

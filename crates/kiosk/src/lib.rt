@@ -305,7 +305,7 @@ pub extern "C" fn kiosk_lay_out(
     answered(answer, place)
 }
 
-// The listing of a spool as text (rule 9): its length, from the buffer's start on.
+// The listing of a spool as text (rules, section 9): its length, from the buffer's start on.
 #[no_mangle]
 pub extern "C" fn kiosk_listing(file: &[u8], text: &mut [u8; LISTING_ROOM]) -> usize
     ensures whole { λ r. ⌜ take r (now (text .exit)) ≡ listing (now (file .entry)) ⌝ }

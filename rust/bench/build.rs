@@ -1,26 +1,32 @@
-//! Compiles the plain C version with the system's compiler at -O3.
+//! Compiles the C versions with the system's compiler at -O3: plain C, and on x86-64 the one by hand for SSE2.
 
 use std::path::PathBuf;
 use std::process::Command;
 use std::{env, fs};
 
 fn main() {
-    println!("cargo:rerun-if-changed=c/plain.c");
+    println!("cargo:rerun-if-changed=c");
     println!("cargo:rerun-if-env-changed=CC");
     let out = PathBuf::from(env::var_os("OUT_DIR").expect("cargo sets OUT_DIR"));
-    let object = out.join("plain.o");
-    let archive = out.join("libplain.a");
+    let archive = out.join("libversions.a");
     let compiler = env::var_os("CC").unwrap_or_else(|| "cc".into());
-    run(Command::new(compiler)
-        .args(["-std=c11", "-O3", "-Wall", "-Wextra", "-Werror", "-c"])
-        .arg("c/plain.c")
-        .arg("-o")
-        .arg(&object));
+    let mut versions = vec!["plain"];
+    if env::var("CARGO_CFG_TARGET_ARCH").is_ok_and(|arch| arch == "x86_64") {
+        versions.push("sse2");
+    }
     // ar would add to an archive that is there.
     let _ = fs::remove_file(&archive);
-    run(Command::new("ar").arg("rcs").arg(&archive).arg(&object));
+    for version in versions {
+        let object = out.join(version).with_extension("o");
+        run(Command::new(&compiler)
+            .args(["-std=c11", "-O3", "-Wall", "-Wextra", "-Werror", "-c"])
+            .arg(format!("c/{version}.c"))
+            .arg("-o")
+            .arg(&object));
+        run(Command::new("ar").arg("rcs").arg(&archive).arg(&object));
+    }
     println!("cargo:rustc-link-search=native={}", out.display());
-    println!("cargo:rustc-link-lib=static=plain");
+    println!("cargo:rustc-link-lib=static=versions");
 }
 
 fn run(command: &mut Command) {

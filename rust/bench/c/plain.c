@@ -2,8 +2,7 @@
  * The operations in plain C, as a careful programmer would write them, to compare speed with: the same
  * answers and bytes as the proved library, every sample checked before a byte is written.
  */
-#include <stddef.h>
-#include <stdint.h>
+#include "plain.h"
 
 enum { NOT_OFFERED = -9, NOT_WHOLE = -10, WRONG_ROOM = -11, TOO_GREAT = -12, CHROMA_ZERO = -13 };
 

@@ -1,57 +1,99 @@
-//! Benchmarks: nanoseconds a pixel of each operation, its checks included, beside plain C and memcpy.
-//! Run with `cargo run --release -p bench`.
+//! Benchmarks: nanoseconds a pixel of each operation, its checks included, beside plain C, C by hand for SSE2, and
+//! memcpy. Run with `cargo run --release -p bench`.
 
 #![deny(unsafe_code)]
 
-mod plain;
+mod buffer;
+mod c;
 
+use buffer::Buffer;
 use kiosk::Conversion;
 use std::hint::black_box;
 use std::time::Instant;
 
-const IN_CACHE: usize = 20_000;
-const IN_MEMORY: usize = 8_000_000;
+/// Pixels that stay in the cache, a print of 10 by 15 centimetres, and a camera's picture.
+const SIZES: [usize; 3] = [20_000, 1_000_000, 8_000_000];
 
-/// The best of several runs, in nanoseconds a pixel. Each run takes at least some milliseconds.
-fn best(pixels: usize, mut run: impl FnMut()) -> f64 {
-    run();
-    let turns = (2_000_000 / pixels).max(1);
-    let mut best = f64::INFINITY;
-    for _ in 0..7 {
-        let start = Instant::now();
-        for _ in 0..turns {
-            run();
+const ROUNDS: usize = 11;
+
+/// A way to compute an operation's result: its answer is the pixel count.
+type Version<'a, T> = &'a dyn Fn(&mut [T]) -> i64;
+
+/// The best of several rounds for each version, in nanoseconds a pixel. Each round takes every version for some
+/// milliseconds, one after the other, so that all meet the same pace of the machine.
+fn best<T>(pixels: usize, dst: &mut [T], versions: &[Version<T>]) -> Vec<f64> {
+    let turns = (1_000_000 / pixels).max(1);
+    let mut times = vec![f64::INFINITY; versions.len()];
+    for _ in 0..ROUNDS {
+        for (time, version) in times.iter_mut().zip(versions) {
+            version(dst);
+            let start = Instant::now();
+            for _ in 0..turns {
+                black_box(version(black_box(&mut *dst)));
+            }
+            *time = time.min(start.elapsed().as_secs_f64() / turns as f64);
         }
-        best = best.min(start.elapsed().as_secs_f64() / turns as f64);
     }
-    best * 1e9 / pixels as f64
+    times
+        .iter()
+        .map(|time| time * 1e9 / pixels as f64)
+        .collect()
 }
 
-/// What one operation takes: by the library, by plain C, and a copy of as many bytes as it writes.
+/// What one operation takes: by the library, by plain C, by hand, and a copy of as many bytes as it writes.
 struct Times {
     library: f64,
     plain: f64,
+    sse2: Option<f64>,
     copy: f64,
 }
 
 impl Times {
-    fn print(&self, name: &str, pixels: usize) {
+    /// Times versions, the library's first and then plain C's, that must write the same `room` numbers.
+    fn of<T: Copy + Default + PartialEq>(
+        pixels: usize,
+        room: usize,
+        versions: &[Version<T>],
+    ) -> Times {
+        let mut dst = Buffer::destination(room);
+        assert_eq!(versions[0](&mut dst), pixels as i64);
+        let expected = Buffer::source(&dst);
+        for version in versions {
+            dst.fill(T::default());
+            assert_eq!(version(&mut dst), pixels as i64);
+            assert!(*dst == *expected, "a C version differs");
+        }
+        let copy = |dst: &mut [T]| {
+            dst.copy_from_slice(black_box(&expected));
+            pixels as i64
+        };
+        let copied: [Version<T>; 1] = [&copy];
+        let times = best(pixels, &mut dst, &[versions, &copied].concat());
+        Times {
+            library: times[0],
+            plain: times[1],
+            sse2: (versions.len() > 2).then(|| times[2]),
+            copy: times[times.len() - 1],
+        }
+    }
+
+    /// The library's time over that of the better C.
+    fn ratio(&self) -> f64 {
+        self.library / self.sse2.map_or(self.plain, |sse2| sse2.min(self.plain))
+    }
+
+    fn print(&self, operation: &Operation, pixels: usize) {
+        let sse2 = self.sse2.map_or("-".into(), |sse2| format!("{sse2:.3}"));
         println!(
-            "{name:<24} {pixels:>9} {:>8.3} {:>8.3} {:>8.2} {:>8.2}",
+            "{:<20} {pixels:>9} {:>8.3} {:>8.3} {sse2:>8} {:>8.2} {:>6.2} {:>9.2}",
+            operation.name,
             self.library,
             self.plain,
-            self.library / self.plain,
+            self.ratio(),
+            operation.goal,
             self.library / self.copy
         );
     }
-}
-
-fn copy_time(bytes: usize, pixels: usize) -> f64 {
-    let src = vec![1u8; bytes];
-    let mut dst = vec![0u8; bytes];
-    best(pixels, || {
-        black_box(&mut dst).copy_from_slice(black_box(&src))
-    })
 }
 
 /// Numbers that look random, the same at every run.
@@ -98,60 +140,51 @@ fn picture(conversion: Conversion, pixels: usize) -> Vec<u8> {
     }
 }
 
+fn codes(depth: u32, pixels: usize) -> Vec<u8> {
+    picture(Conversion::ToSrgb { depth }, pixels)
+}
+
+fn answer(result: Result<usize, impl std::fmt::Debug>) -> i64 {
+    result.expect("a sound picture is converted") as i64
+}
+
 fn time_conversion(conversion: Conversion, pixels: usize) -> Times {
-    let src = picture(conversion, pixels);
-    let mut dst = vec![0; conversion.needed(src.len())];
-    let mut plain = dst.clone();
-    assert_eq!(kiosk::convert(conversion, &src, &mut dst), Ok(pixels));
-    assert_eq!(plain::convert(conversion, &src, &mut plain), pixels as i64);
-    assert!(dst == plain, "plain C differs: {conversion:?}");
-    Times {
-        library: best(pixels, || {
-            let _ = black_box(kiosk::convert(conversion, black_box(&src), &mut dst));
-        }),
-        plain: best(pixels, || {
-            black_box(plain::convert(conversion, black_box(&src), &mut plain));
-        }),
-        copy: copy_time(dst.len(), pixels),
-    }
+    let src = Buffer::source(&picture(conversion, pixels));
+    let room = conversion.needed(src.len());
+    let library = |dst: &mut [u8]| answer(kiosk::convert(conversion, &src, dst));
+    let plain = |dst: &mut [u8]| c::plain(conversion, &src, dst);
+    #[cfg(target_arch = "x86_64")]
+    let sse2 = |dst: &mut [u8]| c::sse2(conversion, &src, dst);
+    Times::of(
+        pixels,
+        room,
+        &[
+            &library,
+            &plain,
+            #[cfg(target_arch = "x86_64")]
+            &sse2,
+        ],
+    )
 }
 
 fn time_code_to_light(depth: u32, pixels: usize) -> Times {
-    let src = picture(Conversion::ToSrgb { depth }, pixels);
-    let mut dst = vec![0; 3 * pixels];
-    let mut plain = dst.clone();
-    assert_eq!(kiosk::code_to_light(depth, &src, &mut dst), Ok(pixels));
-    assert_eq!(plain::code_to_light(depth, &src, &mut plain), pixels as i64);
-    assert!(dst == plain, "plain C differs: code to light");
-    Times {
-        library: best(pixels, || {
-            let _ = black_box(kiosk::code_to_light(depth, black_box(&src), &mut dst));
-        }),
-        plain: best(pixels, || {
-            black_box(plain::code_to_light(depth, black_box(&src), &mut plain));
-        }),
-        copy: copy_time(4 * dst.len(), pixels),
-    }
+    let src = Buffer::source(&codes(depth, pixels));
+    let library = |dst: &mut [i32]| answer(kiosk::code_to_light(depth, &src, dst));
+    let plain = |dst: &mut [i32]| c::code_to_light(depth, &src, dst);
+    Times::of(pixels, 3 * pixels, &[&library, &plain])
 }
 
 fn time_light_to_code(depth: u32, pixels: usize) -> Times {
-    let codes = picture(Conversion::ToSrgb { depth }, pixels);
-    let mut src = vec![0; 3 * pixels];
-    kiosk::code_to_light(depth, &codes, &mut src).expect("sound codes have light");
-    let mut dst = vec![0; 6 * pixels];
-    let mut plain = dst.clone();
-    assert_eq!(kiosk::light_to_code(depth, &src, &mut dst), Ok(pixels));
-    assert_eq!(plain::light_to_code(depth, &src, &mut plain), pixels as i64);
-    assert!(dst == plain, "plain C differs: light to code");
-    Times {
-        library: best(pixels, || {
-            let _ = black_box(kiosk::light_to_code(depth, black_box(&src), &mut dst));
-        }),
-        plain: best(pixels, || {
-            black_box(plain::light_to_code(depth, black_box(&src), &mut plain));
-        }),
-        copy: copy_time(dst.len(), pixels),
-    }
+    let mut light = vec![0; 3 * pixels];
+    answer(kiosk::code_to_light(
+        depth,
+        &codes(depth, pixels),
+        &mut light,
+    ));
+    let src = Buffer::source(&light);
+    let library = |dst: &mut [u8]| answer(kiosk::light_to_code(depth, &src, dst));
+    let plain = |dst: &mut [u8]| c::light_to_code(depth, &src, dst);
+    Times::of(pixels, 6 * pixels, &[&library, &plain])
 }
 
 /// The tables that plain C searches, read off the library: it is plain C's loops that are timed.
@@ -170,7 +203,7 @@ fn set_tables() {
     let mut twelve = [0; 2560];
     fill_thresholds(10, 384, &mut ten);
     fill_thresholds(12, 1536, &mut twelve);
-    plain::set_tables(&light, &ten, &twelve);
+    c::set_tables(&light, &ten, &twelve);
 }
 
 fn fill_thresholds(depth: u32, offset: u16, thresholds: &mut [u32]) {
@@ -188,74 +221,142 @@ fn fill_thresholds(depth: u32, offset: u16, thresholds: &mut [u32]) {
     assert_eq!(level + 1, thresholds.len());
 }
 
+enum Call {
+    Convert(Conversion),
+    CodeToLight(u32),
+    LightToCode(u32),
+}
+
+/// What is timed, and the goal: how long it may take, in times of the better C.
+struct Operation {
+    name: String,
+    goal: f64,
+    call: Call,
+}
+
+impl Operation {
+    fn time(&self, pixels: usize) -> Times {
+        match self.call {
+            Call::Convert(conversion) => time_conversion(conversion, pixels),
+            Call::CodeToLight(depth) => time_code_to_light(depth, pixels),
+            Call::LightToCode(depth) => time_light_to_code(depth, pixels),
+        }
+    }
+}
+
+fn operations() -> Vec<Operation> {
+    let operation = |name: String, goal, call| Operation { name, goal, call };
+    let convert = |name, goal, conversion| operation(name, goal, Call::Convert(conversion));
+    let mut all = Vec::new();
+    for depth in [10, 16] {
+        let conversion = Conversion::FromSrgb { depth };
+        all.push(convert(format!("sRGB to e-sRGB {depth}"), 1.1, conversion));
+    }
+    for depth in [10, 12, 16] {
+        let conversion = Conversion::ToSrgb { depth };
+        all.push(convert(format!("e-sRGB {depth} to sRGB"), 0.9, conversion));
+    }
+    for (from, to) in [(10, 12), (12, 10), (16, 12)] {
+        let conversion = Conversion::ChangeDepth { from, to };
+        all.push(convert(format!("e-sRGB {from} to {to}"), 1.2, conversion));
+    }
+    for depth in [10, 12, 16] {
+        let conversion = Conversion::ToLumaChroma { depth };
+        all.push(convert(
+            format!("luma and chroma {depth}"),
+            1.75,
+            conversion,
+        ));
+    }
+    for depth in [10, 12, 16] {
+        let conversion = Conversion::FromLumaChroma { depth };
+        all.push(convert(format!("back to e-sRGB {depth}"), 1.0, conversion));
+    }
+    for depth in [10, 12] {
+        let name = format!("code {depth} to light");
+        all.push(operation(name, 1.5, Call::CodeToLight(depth)));
+    }
+    for depth in [10, 12] {
+        let name = format!("light to code {depth}");
+        all.push(operation(name, 1.2, Call::LightToCode(depth)));
+    }
+    all
+}
+
 fn main() {
     set_tables();
-    let conversions = [
-        ("sRGB to e-sRGB 10", Conversion::FromSrgb { depth: 10 }),
-        ("sRGB to e-sRGB 16", Conversion::FromSrgb { depth: 16 }),
-        ("e-sRGB 10 to sRGB", Conversion::ToSrgb { depth: 10 }),
-        ("e-sRGB 12 to sRGB", Conversion::ToSrgb { depth: 12 }),
-        ("e-sRGB 16 to sRGB", Conversion::ToSrgb { depth: 16 }),
-        (
-            "e-sRGB 10 to 12",
-            Conversion::ChangeDepth { from: 10, to: 12 },
-        ),
-        (
-            "e-sRGB 12 to 10",
-            Conversion::ChangeDepth { from: 12, to: 10 },
-        ),
-        (
-            "e-sRGB 16 to 12",
-            Conversion::ChangeDepth { from: 16, to: 12 },
-        ),
-        ("luma and chroma 10", Conversion::ToLumaChroma { depth: 10 }),
-        ("luma and chroma 12", Conversion::ToLumaChroma { depth: 12 }),
-        ("luma and chroma 16", Conversion::ToLumaChroma { depth: 16 }),
-        (
-            "back to e-sRGB 10",
-            Conversion::FromLumaChroma { depth: 10 },
-        ),
-        (
-            "back to e-sRGB 12",
-            Conversion::FromLumaChroma { depth: 12 },
-        ),
-        (
-            "back to e-sRGB 16",
-            Conversion::FromLumaChroma { depth: 16 },
-        ),
-    ];
-    println!("ns a pixel, the best of 7 runs, checks of the input included; / is the library's time over the other's");
+    println!("ns a pixel, the best of {ROUNDS} rounds, checks of the input included; / is the library's time over the other's");
     println!(
-        "{:<24} {:>9} {:>8} {:>8} {:>8} {:>8}",
-        "operation", "pixels", "library", "plain C", "/ C", "/ memcpy"
+        "{:<20} {:>9} {:>8} {:>8} {:>8} {:>8} {:>6} {:>9}",
+        "operation", "pixels", "library", "plain C", "SSE2 C", "/ C", "goal", "/ memcpy"
     );
-    for pixels in [IN_CACHE, IN_MEMORY] {
-        for (name, conversion) in conversions {
-            time_conversion(conversion, pixels).print(name, pixels);
-        }
-        for depth in [10, 12] {
-            time_code_to_light(depth, pixels).print(&format!("code {depth} to light"), pixels);
-        }
-        for depth in [10, 12] {
-            time_light_to_code(depth, pixels).print(&format!("light to code {depth}"), pixels);
+    let operations = operations();
+    let mut missed = Vec::new();
+    for pixels in SIZES {
+        for operation in &operations {
+            let times = operation.time(pixels);
+            times.print(operation, pixels);
+            if operation.goal < times.ratio() {
+                missed.push(format!("{} at {pixels}", operation.name));
+            }
         }
     }
-    println!("\nhow the time grows with size, ns a pixel");
-    println!(
-        "{:<24} {:>9} {:>9} {:>9} {:>9} {:>9}",
-        "operation", 100, 1_000, 10_000, 100_000, 1_000_000
-    );
-    for (name, conversion) in [
-        conversions[0],
-        conversions[2],
-        conversions[8],
-        conversions[11],
-    ] {
-        let times = [100, 1_000, 10_000, 100_000, 1_000_000]
-            .map(|pixels| format!("{:>9.3}", time_conversion(conversion, pixels).library));
-        println!("{name:<24} {}", times.join(" "));
+    println!("goals missed: {}", missed.len());
+    for miss in missed {
+        println!("  {miss}");
     }
-    let times = [100, 1_000, 10_000, 100_000, 1_000_000]
-        .map(|pixels| format!("{:>9.3}", time_light_to_code(12, pixels).library));
-    println!("{:<24} {}", "light to code 12", times.join(" "));
+    println!("\nhow the library's time grows with size, ns a pixel");
+    let sizes = [100, 1_000, 10_000, 100_000, 1_000_000];
+    println!(
+        "{:<20} {}",
+        "pixels",
+        sizes.map(|pixels| format!("{pixels:>9}")).join(" ")
+    );
+    for operation in operations.iter().filter(|o| o.name.contains("10")) {
+        let times = sizes.map(|pixels| format!("{:>9.3}", operation.time(pixels).library));
+        println!("{:<20} {}", operation.name, times.join(" "));
+    }
+}
+
+#[cfg(test)]
+mod tests {
+    use super::*;
+
+    /// Sources of every length up to 40 pixels and a byte, some with samples that no code is: each version gives the
+    /// library's answer and bytes.
+    #[test]
+    fn the_c_versions_agree_with_the_library() {
+        let mut numbers = noise(usize::MAX);
+        let mut next = move |below: u64| numbers.next().expect("there is always one more") % below;
+        let mut refused = 0;
+        for operation in operations() {
+            let Call::Convert(conversion) = operation.call else {
+                continue;
+            };
+            for len in (0..=241).chain(0..=241) {
+                let mut src: Vec<u8> = picture(conversion, 81)[..len].to_vec();
+                if len > 0 && next(3) == 0 {
+                    let at = next(len as u64) as usize / 2 * 2;
+                    src[at] = [0, 255][next(2) as usize];
+                    src[(at + 1).min(len - 1)] = [0, 255][next(2) as usize];
+                }
+                let room = conversion.needed(len);
+                let mut dst = vec![7; room];
+                let expected = match kiosk::convert(conversion, &src, &mut dst) {
+                    Ok(pixels) => pixels as i64,
+                    Err(refusal) => -i64::from(refusal.fault.number()),
+                };
+                refused += usize::from(expected < 0);
+                let same = |version: fn(Conversion, &[u8], &mut [u8]) -> i64| {
+                    let mut other = vec![7; room];
+                    assert_eq!(version(conversion, &src, &mut other), expected);
+                    assert!(other == dst, "{conversion:?} of {len} bytes");
+                };
+                same(c::plain);
+                #[cfg(target_arch = "x86_64")]
+                same(c::sse2);
+            }
+        }
+        assert!(refused > 100, "only {refused} sources were refused");
+    }
 }

@@ -1,0 +1,26 @@
+/* The operations in plain C: the answer is the pixel count, or a refusal's number below 0. */
+#ifndef PLAIN_H
+#define PLAIN_H
+
+#include <stddef.h>
+#include <stdint.h>
+
+int64_t plain_from_srgb(uint32_t depth, const uint8_t *src, size_t src_len, uint8_t *dst,
+                        size_t dst_len, size_t *place);
+int64_t plain_to_srgb(uint32_t depth, const uint8_t *src, size_t src_len, uint8_t *dst,
+                      size_t dst_len, size_t *place);
+int64_t plain_change_depth(uint32_t from, uint32_t to, const uint8_t *src, size_t src_len,
+                           uint8_t *dst, size_t dst_len, size_t *place);
+int64_t plain_to_luma_chroma(uint32_t depth, const uint8_t *src, size_t src_len, uint8_t *dst,
+                             size_t dst_len, size_t *place);
+int64_t plain_from_luma_chroma(uint32_t depth, const uint8_t *src, size_t src_len, uint8_t *dst,
+                               size_t dst_len, size_t *place);
+int64_t plain_code_to_light(uint32_t depth, const uint8_t *src, size_t src_len, int32_t *dst,
+                            size_t dst_len, size_t *place);
+int64_t plain_light_to_code(uint32_t depth, const int32_t *src, size_t src_len, uint8_t *dst,
+                            size_t dst_len);
+
+/* The light of each 12-bit level (2,560 numbers), and the least light of each level at 10 bits (640) and 12. */
+void plain_set_tables(const uint32_t *light, const uint32_t *ten, const uint32_t *twelve);
+
+#endif

@@ -1,6 +1,7 @@
 // e-sRGB codes, one sample at a time (rules, section 1): the depths that are offered, sRGB to e-sRGB and
 // back, and one depth to another. It promises that a rule computes the definition of its depth, for every
 // sample.
+use numbers::excess;
 ghost use mathlib.Core.Path.{_≡_};
 ghost use Rattle.esrgb.specs.Depths.{bits, Names, greatest, step};
 ghost use Rattle.esrgb.specs.Codes.{fromSrgb, toSrgb};
@@ -98,10 +99,7 @@ pub fn apply(rule: SampleRule, sample: u16) -> u16
 fn to_eight(cut: Cut, sample: u16) -> u16
     ensures { λ r. ⌜ r ≡ applied (SampleRule.ToEight cut) sample ⌝ }
 {
-    if sample < cut.low {
-        return 0;
-    }
-    let value = (sample - cut.low) >> (cut.shift % 16);
+    let value = excess(sample, cut.low) >> (cut.shift % 16);
     if 255 < value { 255 } else { value }
 }
 

@@ -3,3 +3,4 @@ pub mod Bytes
 pub mod Booleans
 pub mod Writing
 pub mod Sign
+pub mod Bits

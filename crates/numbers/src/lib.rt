@@ -1,8 +1,9 @@
-// Whole numbers: how a quotient is rounded, and how a number stands in bytes. The definitions of
-// specs/ and the laws of proofs/ are what the crates above use; the functions take and give single
-// bytes, so that they need no bound on an index and ask nothing of a caller.
+// Whole numbers: how a quotient is rounded, how a number stands in bytes, and how far one is above
+// another. The definitions of specs/ and the laws of proofs/ are what the crates above use; the functions
+// take and give single numbers, so that they need no bound on an index and ask nothing of a caller.
 ghost use mathlib.Core.Path.{_≡_};
 ghost use mathlib.Core.List.{[], _∷_};
+ghost use Prim.Native.Nat.{_-_};
 ghost use Rattle.numbers.specs.Bytes.{littleEndian, lowBytes};
 
 // The number of two bytes, the low byte first.
@@ -51,4 +52,12 @@ pub fn four_bytes(v: u32) -> FourBytes
         c: (v / 256 / 256 % 256) as u8,
         d: (v / 256 / 256 / 256 % 256) as u8,
     }
+}
+
+// How far a number is above a limit, and 0 if it is not: a difference of ℕ. A processor has one instruction
+// that does this to several samples at once.
+pub fn excess(x: u16, limit: u16) -> u16
+    ensures { λ r. ⌜ r ≡ x - limit ⌝ }
+{
+    if limit < x { x - limit } else { 0 }
 }

@@ -1,16 +1,18 @@
 -- Samples judged one after another: what one more sample changes, and when none is at fault.
 -- Assumes nothing.
-use Prim.Native.Nat.{ℕ, zero, suc, _+_, _*_, _/_, _%_, _≤_, _<_}
-use mathlib.Core.Path.{_≡_, refl, ap, _∙_}
+use Prim.Native.Nat.{ℕ, zero, suc, _+_, _-_, _*_, _/_, _%_, _≤_, _<_}
+use mathlib.Core.Path.{_≡_, refl, sym, ap, _∙_}
 use mathlib.Core.Bool.{Bool, true, false, false≢true, not, _&&_, _||_}
 use mathlib.Core.List.{List, [], _∷_}
 use native.Mathlib.Omega.{arith}
 use native.Mathlib.Numerals.{add-one}
 use borrow.Author.Tests.{eq-eqb, ne-eqb, le-ltb, ltb-false, eqb-false, not-true}
+use lib.Bits.{bitOr}
 use lib.Dec.{ltb, eqb}
 use lib.ListN.{length, getD, drop}
 use lib.Seq.{drop-cons}
 use Rattle.numbers.proofs.Booleans.{or-false, and-true, and-false}
+use Rattle.numbers.proofs.Bits.{or-zero, excess-zero}
 use Rattle.refusal.specs.Answers.{sound, Said, decides}
 use Rattle.samples.specs.declared.Pixel.{Pixel}
 use Rattle.samples.specs.declared.Coding.{Coding}
@@ -64,10 +66,18 @@ pub within-at :
 unfolding allWithin
 within-at least greatest xs k h = rw (drop-cons xs k 0 h, add-one)
 
-pub one-more : (out below above rest : Bool) → not out && (not (below || above) && rest) ≡ not (out || below || above) && rest
-one-more true b a rest = refl
-one-more false true a rest = refl
-one-more false false a rest = refl
+none-outside : (out below above rest : Bool) → out && (not (below || above) && rest) ≡ ((out && not below) && not above) && rest
+none-outside false b a rest = refl
+none-outside true true a rest = refl
+none-outside true false a rest = refl
+
+-- Nothing gathered, and the next sample adds nothing: then both look sound.
+pub one-more :
+    (outside least greatest x : ℕ) (rest : Bool)
+    → eqb outside 0 && (not (ltb x least || ltb greatest x) && rest) ≡ eqb (bitOr (bitOr outside (least - x)) (x - greatest)) 0 && rest
+one-more outside least greatest x rest =
+    none-outside (eqb outside 0) (ltb x least) (ltb greatest x) rest
+    ∙ sym (rw (or-zero (bitOr outside (least - x)) (x - greatest), or-zero outside (least - x), excess-zero least x, excess-zero x greatest) refl)
 
 pub within-sound :
     (chroma : Bool) (greatest : ℕ) (done : Said) (k : ℕ) (xs : List ℕ)

@@ -1,6 +1,7 @@
 // Samples in pixel buffers: one or two bytes each, three to a pixel; and what an operation says of a
 // source and of the room for its result. It promises the refusals and places of rules 4.2 and 4.3, for
 // any buffer and any limit, and asks nothing of a caller.
+use numbers::excess;
 use numbers::from_two;
 use refusal::Answer;
 use refusal::Checked;
@@ -154,27 +155,32 @@ fn first_fault(chroma: bool, greatest: u16, src: &[u8], count: usize, start: usi
     Answer::Done(count)
 }
 
-// The least sample that the quick look takes for sound.
-fn least_of(chroma: bool) -> u16
-    ensures { λ r. ⌜ r ≡ leastOf chroma ⌝ }
-{
-    if chroma { 1 } else { 0 }
-}
-
 // Are all samples within bounds? The loop has no early exit, so that a compiler can look at several
-// samples at once.
+// samples at once; what it gathers is 0 as long as no sample is below or above.
 fn all_within(least: u16, greatest: u16, src: &[u8]) -> bool
     ensures { λ r. ⌜ r ≡ allWithin least greatest (twoByTwo (now (src .entry))) ⌝ }
 {
     let end = src.len() / 2;
-    let mut out = false;
+    let mut outside = 0;
     let mut k = 0;
     while k < end {
         let x = wide_sample(src, k);
-        out = out | (x < least) | (greatest < x);
+        outside = outside | excess(least, x) | excess(x, greatest);
         k += 1;
     }
-    !out
+    outside == 0
+}
+
+// The quick look. Each call names the least sample, so that the compiler makes a loop of its own for it:
+// nothing is below 0.
+fn looks_sound(chroma: bool, greatest: u16, src: &[u8]) -> bool
+    ensures { λ r. ⌜ r ≡ allWithin (leastOf chroma) greatest (twoByTwo (now (src .entry))) ⌝ }
+{
+    if chroma {
+        all_within(1, greatest, src)
+    } else {
+        all_within(0, greatest, src)
+    }
 }
 
 // The first fault in a buffer of codes, or the pixel count if there is none. Nearly every picture is
@@ -187,7 +193,7 @@ fn judge(chroma: bool, greatest: u16, src: &[u8], pixels: usize) -> Answer
             return Answer::Done(pixels);
         }
     }
-    if all_within(least_of(chroma), greatest, src) {
+    if looks_sound(chroma, greatest, src) {
         return Answer::Done(pixels);
     }
     let start = sound_start(chroma, greatest, src);

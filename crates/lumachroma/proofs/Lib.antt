@@ -1,2 +1,3 @@
 pub mod Pixel
 pub mod Quotient
+pub mod Back

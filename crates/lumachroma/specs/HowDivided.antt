@@ -1,4 +1,4 @@
--- How the code divides: the signed quotient (up − down) / den of a chroma, and the clipped one of a channel.
+-- How the code divides: the signed quotient (up − down) / den of a chroma, and that of a channel, which is clipped.
 -- Assumes nothing.
 use Prim.Native.Nat.{ℕ, _+_, _-_, _*_, _/_, _%_, _≤_, _<_, min}
 use mathlib.Core.Path.{_≡_}
@@ -26,3 +26,25 @@ pub record Middle (middle : ℕ) : Type 0 where
 -- `clipped` at the depth with this middle code: the greatest code is one below twice the middle.
 unfoldable pub clippedAt : ℕ → ℕ → ℕ → ℕ → ℕ
 clippedAt middle up down den = min (2 * middle - 1) (nearest (up - down) den)
+
+-- The factor is weight / den in units, rounded down.
+pub record Share (den weight unit factor : ℕ) : Type 0 where
+  pub low : den * factor ≤ weight * unit
+  pub near : weight * unit ≤ den * factor + den
+
+-- What a sum stands too high until it is clipped.
+abbrev pub lift : ℕ
+lift = 262144
+
+-- Where a sum starts, in units: half a unit rounds it, and the allowance makes up for factors that are rounded down.
+abbrev pub allowance : ℕ
+allowance = 65536
+
+abbrev pub start : ℕ → ℕ
+start unit = lift * unit + unit / 2 + allowance
+
+-- The sum is the quotient (up − down) / den to the nearest, plus the lift. Where that is no code, it is none on the same side.
+pub record Unclipped (middle up down den sum : ℕ) : Type 0 where
+  pub clips : min (2 * middle - 1) (sum - lift) ≡ clippedAt middle up down den
+  pub least : 65536 ≤ sum
+  pub most : sum < 2 * lift

@@ -5,10 +5,10 @@ use esrgb::Depth;
 use esrgb::step_of;
 use samples::Pixel;
 ghost use mathlib.Core.Path.{_≡_};
-ghost use Prim.Native.Nat.{_+_, _-_, _*_, _≤_, min};
+ghost use Prim.Native.Nat.{ℕ, _+_, _-_, _*_, _^_, _<_, min};
 ghost use Rattle.esrgb.specs.Depths.{bits, middle};
 ghost use Rattle.lumachroma.specs.LumaChroma.{chroma, toLumaChroma, toRgb};
-ghost use Rattle.lumachroma.specs.HowDivided.{InRange, Biased, Middle, clippedAt};
+ghost use Rattle.lumachroma.specs.HowDivided.{InRange, Biased, Middle, lift, Share, Unclipped};
 
 // 1000 times luma, not yet rounded. Chroma comes from it too, and so never from rounded luma.
 fn weighted_sum(red: u16, green: u16, blue: u16) -> u32
@@ -61,55 +61,91 @@ pub fn to_luma_chroma(depth: Depth, p: Pixel) -> Pixel
     }
 }
 
-// A sum that stands `bias` too high, clipped to the codes with this middle code. On the way back the
-// middle stands for the depth, so that a loop works it out once and clips without a jump.
-fn clip(middle: u32, sum: u32, bias: u32) -> u16
+// ---- the way back
+
+// What a sum stands too high until it is clipped, so that none is below 0.
+const LIFT: u32 = 262144;
+
+// A chroma's share of a channel is counted in units, 2^30 of them to a code, so that a factor and a shift
+// do for a division. Factors are rounded down, which the allowance makes up for.
+const UNIT: u64 = 1073741824;
+
+const ALLOWANCE: u64 = 65536;
+
+// Where a sum starts: half a unit rounds it.
+const START: u64 = (LIFT as u64) * UNIT + UNIT / 2 + ALLOWANCE;
+
+// 1.402 and 1.772.
+const RED_OF_CR: u64 = 1505386037;
+
+const BLUE_OF_CB: u64 = 1902670512;
+
+// Green takes finer units, 2^36 to a code: its shares have the denominator 587,000.
+const GREEN_UNIT: u64 = 68719476736;
+
+const GREEN_START: u64 = (LIFT as u64) * GREEN_UNIT + GREEN_UNIT / 2 + ALLOWANCE;
+
+// 202,008 / 587,000 and 419,198 / 587,000.
+const GREEN_OF_CB: u64 = 23648865513;
+
+const GREEN_OF_CR: u64 = 49075071905;
+
+// Red or blue, not yet clipped: luma plus `factor` units of the chroma's distance from the middle.
+fn add_chroma(middle: u32, luma: u16, chroma: u16, factor: u64) -> u32
+    requires { ⌜ Middle middle × (factor < 2 ^ 31) ⌝ }
+    ensures { λ r. ⌜ ((weight : ℕ) → Share 1000 weight (2 ^ 30) factor → Unclipped middle (1000 * luma + weight * chroma) (weight * middle) 1000 r) ⌝ }
+{
+    let up = START + factor * (chroma as u64);
+    let down = factor * (middle as u64);
+    (luma as u32) + (((up - down) / UNIT) as u32)
+}
+
+// Green, not yet clipped: luma less both chromas' shares.
+fn green_of(middle: u32, luma: u16, cb: u16, cr: u16) -> u32
     requires { ⌜ Middle middle ⌝ }
-    ensures { λ r. ⌜ r ≡ min (2 * middle - 1) (sum - bias) ⌝ }
+    ensures { λ r. ⌜ Unclipped middle (587000 * luma + (202008 + 419198) * middle) (202008 * cb + 419198 * cr) 587000 r ⌝ }
+{
+    let up = GREEN_START + (GREEN_OF_CB * (middle as u64) + GREEN_OF_CR * (middle as u64));
+    let down = GREEN_OF_CB * (cb as u64) + GREEN_OF_CR * (cr as u64);
+    (luma as u32) + (((up - down) / GREEN_UNIT) as u32)
+}
+
+// A sum clipped to the codes with this middle code. On the way back the middle stands for the depth, so
+// that a loop works it out once.
+fn clip(middle: u32, sum: u32) -> u16
+    requires { ⌜ Middle middle ⌝ }
+    ensures { λ r. ⌜ r ≡ min (2 * middle - 1) (sum - lift) ⌝ }
 {
     let greatest = 2 * middle - 1;
-    if sum < bias {
+    if sum < LIFT {
         0
-    } else if sum - bias < greatest {
-        (sum - bias) as u16
+    } else if sum - LIFT < greatest {
+        (sum - LIFT) as u16
     } else {
         greatest as u16
     }
 }
 
-// Red or blue: luma plus `weight` thousandths of the chroma's distance from the middle. The sum
-// stands twice the middle too high, so that it is never below 0.
-fn add_chroma(middle: u32, luma: u16, chroma: u16, weight: u32) -> u16
-    requires { ⌜ Middle middle × (weight ≤ 2000) ⌝ }
-    ensures { λ r. ⌜ r ≡ clippedAt middle (1000 * luma + weight * chroma) (weight * middle) 1000 ⌝ }
-{
-    let part = (weight * (chroma as u32) + middle * (2000 - weight) + 500) / 1000;
-    clip(middle, (luma as u32) + part, 2 * middle)
-}
-
-// Green: luma less both chromas' shares. Numerator and denominator are half of the definition's,
-// which keeps the quotient, and the sum stands 131072 too high, so that it is never below 0.
-fn green_of(middle: u32, luma: u16, cb: u16, cr: u16) -> u16
-    requires { ⌜ Middle middle ⌝ }
-    ensures { λ r. ⌜ r ≡ clippedAt middle (587000 * luma + (202008 + 419198) * middle) (202008 * cb + 419198 * cr) 587000 ⌝ }
-{
-    let up = 293500 * 131072 + 310603 * (middle as u64) + 146750;
-    let down = 101004 * (cb as u64) + 209599 * (cr as u64);
-    clip(
-        middle,
-        (luma as u32) + (((up - down) / 293500) as u32),
-        131072,
-    )
-}
-
-// The way back. What comes back is a code of the depth, whatever the three numbers are.
+// The way back. What comes back is a code of the depth, whatever the three numbers are. Nearly every
+// pixel needs no clipping, and one test says so: no sum is below LIFT, nor any above the greatest code.
 pub fn to_rgb(depth: Depth, p: Pixel) -> Pixel
     ensures { λ r. ⌜ r ≡ toRgb (bits depth) p ⌝ }
 {
     let middle = middle_of(depth);
-    Pixel {
-        first: add_chroma(middle, p.first, p.third, 1402),
-        second: green_of(middle, p.first, p.second, p.third),
-        third: add_chroma(middle, p.first, p.second, 1772),
+    let red = add_chroma(middle, p.first, p.third, RED_OF_CR);
+    let green = green_of(middle, p.first, p.second, p.third);
+    let blue = add_chroma(middle, p.first, p.second, BLUE_OF_CB);
+    if (red | green | blue) % LIFT < 2 * middle {
+        Pixel {
+            first: (red % 65536) as u16,
+            second: (green % 65536) as u16,
+            third: (blue % 65536) as u16,
+        }
+    } else {
+        Pixel {
+            first: clip(middle, red),
+            second: clip(middle, green),
+            third: clip(middle, blue),
+        }
     }
 }

@@ -1,8 +1,8 @@
--- `lumachroma::green_of` meets its contract: the sum less its bias is the definition's quotient, or both are clipped to 0.
+-- `lumachroma::green_of` meets its contract: both factors are shares, rounded down.
 -- Assumes nothing.
+use Prim.Native.Nat.{_≤_}
 use native.Mathlib.Omega.{arith}
-use Rattle.numbers.specs.Rounding.{nearest}
-use Rattle.lumachroma.specs.HowDivided.{clippedAt}
+use Rattle.lumachroma.proofs.Back.{both-unclipped}
 use borrow.Author.Needs.{needs}
 use Rattle.lumachroma.proofs.green_of.Statement.{statement}
 use Rattle.lumachroma.proofs.green_of.Tie as tie
@@ -28,21 +28,22 @@ mul-down-2 c = search needs
 add-down : tie.Need-add-down
 add-down c = search needs
 
-sub-clip : tie.Need-sub-clip
-sub-clip c = search needs
+sub-result : tie.Need-sub-result
+sub-result c = search needs
 
-cast-clip : tie.Need-cast-clip
-cast-clip c = search needs
+cast-result : tie.Need-cast-result
+cast-result c = search needs
 
-add-clip : tie.Need-add-clip
-add-clip c = search needs
-
-clip-requires : tie.Need-clip-requires
-clip-requires c κs = search needs
+add-result : tie.Need-add-result
+add-result c = search needs
 
 returns : tie.Need-returns
-unfolding clippedAt nearest
-returns c = omega arith
+returns c =
+    let a = c .args in
+    let luma : a .luma ≤ 65535 = omega arith in
+    let cb : a .cb ≤ 65535 = omega arith in
+    let cr : a .cr ≤ 65535 = omega arith in
+    both-unclipped _ _ _ _ _ _ (record { low = omega arith; near = omega arith }) (record { low = omega arith; near = omega arith }) (c .pre) cb cr luma
 
 pub green-of-spec : {M : Type 1} → statement M
 green-of-spec =
@@ -55,8 +56,7 @@ green-of-spec =
     mul-down
     mul-down-2
     add-down
-    sub-clip
-    cast-clip
-    add-clip
-    clip-requires
+    sub-result
+    cast-result
+    add-result
     returns)

@@ -1,5 +1,5 @@
 //! Benchmarks: nanoseconds a pixel of each operation, its checks included, beside plain C, C by hand for SSE2, and
-//! memcpy. Run with `cargo run --release -p bench`.
+//! memcpy. Run with `cargo run --release -p bench`, and with ` -- 20000` behind it for that size alone.
 
 #![deny(unsafe_code)]
 
@@ -283,17 +283,29 @@ fn operations() -> Vec<Operation> {
     all
 }
 
-fn main() {
-    set_tables();
+/// The sizes that the command names, in pixels, or all.
+fn sizes() -> Vec<usize> {
+    let named: Vec<usize> = std::env::args()
+        .skip(1)
+        .map(|word| word.parse().expect("a size in pixels"))
+        .collect();
+    if named.is_empty() {
+        SIZES.to_vec()
+    } else {
+        named
+    }
+}
+
+/// Times every operation at these sizes, and says which take longer than their goal.
+fn compare(operations: &[Operation], sizes: &[usize]) {
     println!("ns a pixel, the best of {ROUNDS} rounds, checks of the input included; / is the library's time over the other's");
     println!(
         "{:<20} {:>9} {:>8} {:>8} {:>8} {:>8} {:>6} {:>9}",
         "operation", "pixels", "library", "plain C", "SSE2 C", "/ C", "goal", "/ memcpy"
     );
-    let operations = operations();
     let mut missed = Vec::new();
-    for pixels in SIZES {
-        for operation in &operations {
+    for &pixels in sizes {
+        for operation in operations {
             let times = operation.time(pixels);
             times.print(operation, pixels);
             if operation.goal < times.ratio() {
@@ -305,6 +317,9 @@ fn main() {
     for miss in missed {
         println!("  {miss}");
     }
+}
+
+fn show_growth(operations: &[Operation]) {
     println!("\nhow the library's time grows with size, ns a pixel");
     let sizes = [100, 1_000, 10_000, 100_000, 1_000_000];
     println!(
@@ -315,6 +330,16 @@ fn main() {
     for operation in operations.iter().filter(|o| o.name.contains("10")) {
         let times = sizes.map(|pixels| format!("{:>9.3}", operation.time(pixels).library));
         println!("{:<20} {}", operation.name, times.join(" "));
+    }
+}
+
+fn main() {
+    set_tables();
+    let sizes = sizes();
+    let operations = operations();
+    compare(&operations, &sizes);
+    if sizes == SIZES {
+        show_growth(&operations);
     }
 }
 

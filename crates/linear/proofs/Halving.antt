@@ -12,7 +12,7 @@ use Rattle.esrgb.specs.Depths.{step}
 use Rattle.esrgb.proofs.Scale.{Scale}
 use Rattle.transfer.specs.Light.{scale}
 use Rattle.transfer.specs.Level.{levelOfLight}
-use Rattle.transfer.specs.HowTabled.{levels, ThresholdTable}
+use Rattle.transfer.specs.HowTabled.{levels, fewLevels, startOf, ThresholdTable, StartTable}
 
 -- The level looked for: that of the light, at most the greatest of a code.
 abbrev pub found : ℕ → ℕ → ℕ
@@ -47,11 +47,14 @@ module _ (n k : ℕ) (s : Scale n) (e : k ≡ step n) (thresholds : List ℕ) (t
       → passed ≡ cond (leb (getD thresholds at 0) light) half 0 → Window k light (level + passed) (width - half)
   look level width half at passed w h i p = rw p (look-by level width half at w h i (leb (getD thresholds at 0) light) refl)
 
-  -- The first look, at all levels.
-  pub first-look : (passed : ℕ) → passed ≡ cond (leb (getD thresholds (64 * k) 0) light) (64 * k) 0 → Window k light passed (256 * k)
-  first-look passed p =
-      let w = look 0 (320 * k) (64 * k) (64 * k) passed (record { low = omega arith; high = omega arith; inside = omega arith }) (omega arith) (omega arith) p in
-      record { low = omega arith; high = omega arith; inside = omega arith }
+  -- The start leaves few levels.
+  window-from :
+      (level : ℕ) → level ≤ levelOfLight (scale n) light → min (levelOfLight (scale n) light) (levels n - 1) < level + fewLevels → level ≤ 320 * k - fewLevels
+      → Window k light level fewLevels
+  window-from level low high last = record { low = omega (arith, same-level); high = omega (arith, same-level); inside = omega arith }
+
+  pub from-start : (starts : List ℕ) → StartTable n starts → (level : ℕ) → level ≡ startOf k starts light → Window k light level fewLevels
+  from-start starts t level p = rw p (window-from (startOf k starts light) (rw e (t .low light)) (rw e (t .high light)) (omega arith))
 
   pub one-level : (level width : ℕ) → Window k light level width → width ≤ 1 → level ≡ min (levelOfLight (scale n) light) (levels n - 1)
   one-level level width w h = omega (arith, same-level)

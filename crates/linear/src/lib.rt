@@ -11,13 +11,15 @@ use samples::Coding;
 use samples::count_pixels;
 use samples::examine;
 use samples::sample;
+use transfer::starts::group_of;
+use transfer::starts::start_table;
 use transfer::table::light_table;
 use transfer::thresholds::thresholds_at_ten;
 use transfer::thresholds::thresholds_at_twelve;
 ghost use mathlib.Core.Path.{_≡_};
 ghost use mathlib.Core.Bool.{true, cond};
 ghost use mathlib.Core.List.{map};
-ghost use Prim.Native.Nat.{ℕ, _+_, _-_, _*_, _/_, _^_, _<_, min};
+ghost use Prim.Native.Nat.{ℕ, _+_, _-_, _*_, _/_, _^_, _≤_, _<_, min};
 ghost use lib.ListN.{length, getD};
 ghost use lib.Dec.{leb};
 ghost use lib.IntN.{pos, negℤ, natAbs};
@@ -26,7 +28,7 @@ ghost use Rattle.samples.specs.Samples.{twoByTwo};
 ghost use Rattle.esrgb.specs.Depths.{bits};
 ghost use Rattle.transfer.specs.Light.{offersLight, scale, lightOfCode};
 ghost use Rattle.transfer.specs.Level.{levelOfLight, codeOfLight};
-ghost use Rattle.transfer.specs.HowTabled.{levels, LightTable, ThresholdTable};
+ghost use Rattle.transfer.specs.HowTabled.{levels, startOf, LightTable, ThresholdTable, StartTable};
 ghost use Rattle.linear.specs.Operations.{codesToLightSays, codesToLight, lightToCodesSays, lightToCodes, lightSays, lightSaid, codeSays, codeSaid};
 
 // Codes to light: each two-byte sample becomes a number. Refused are, in this order: a depth other than
@@ -116,27 +118,35 @@ pub fn light_to_code(depth: u32, src: &[i32], dst: &mut [u8]) -> Answer
 {
     match depth {
         10 => {
+            let starts = start_table();
             let thresholds = thresholds_at_ten();
-            light_to_codes(&thresholds, Depth::Ten, src, dst)
+            light_to_codes(&starts, &thresholds, Depth::Ten, src, dst)
         }
         12 => {
+            let starts = start_table();
             let thresholds = thresholds_at_twelve();
-            light_to_codes(&thresholds, Depth::Twelve, src, dst)
+            light_to_codes(&starts, &thresholds, Depth::Twelve, src, dst)
         }
         _ => Answer::Refused(Refusal::DepthNotOffered),
     }
 }
 
 // The same at a depth that is offered.
-fn light_to_codes(thresholds: &[u32], depth: Depth, src: &[i32], dst: &mut [u8]) -> Answer
-    requires { ⌜ (offersLight (bits depth) ≡ true) × ThresholdTable (bits depth) (now thresholds) ⌝ }
+fn light_to_codes(
+    starts: &[u16; 1268],
+    thresholds: &[u32],
+    depth: Depth,
+    src: &[i32],
+    dst: &mut [u8],
+) -> Answer
+    requires { ⌜ (offersLight (bits depth) ≡ true) × StartTable (bits depth) (now starts) × ThresholdTable (bits depth) (now thresholds) ⌝ }
     ensures answer { λ r. ⌜ said r ≡ lightToCodesSays (bits depth) (length (now (src .entry))) (length (now (dst .entry))) ⌝ }
     ensures bytes { λ r. ⌜ now (dst .exit) ≡ leaves (lightToCodesSays (bits depth) (length (now (src .entry))) (length (now (dst .entry)))) (lightToCodes (bits depth) (now (src .entry))) (now (dst .entry)) ⌝ }
 {
     let answer = count_pixels(false, true, src.len(), dst.len());
     match answer {
         Answer::Done(_) => {
-            write_codes(thresholds, depth, src, dst);
+            write_codes(starts, thresholds, depth, src, dst);
         }
         Answer::Refused(_) => {}
         Answer::RefusedAt(_, _) => {}
@@ -145,13 +155,13 @@ fn light_to_codes(thresholds: &[u32], depth: Depth, src: &[i32], dst: &mut [u8])
 }
 
 // The two bytes of each code.
-fn write_codes(thresholds: &[u32], depth: Depth, src: &[i32], dst: &mut [u8])
-    requires { ⌜ ThresholdTable (bits depth) (now thresholds) × (length (now dst) ≡ 2 * length (now src)) ⌝ }
+fn write_codes(starts: &[u16; 1268], thresholds: &[u32], depth: Depth, src: &[i32], dst: &mut [u8])
+    requires { ⌜ StartTable (bits depth) (now starts) × ThresholdTable (bits depth) (now thresholds) × (length (now dst) ≡ 2 * length (now src)) ⌝ }
     ensures { λ r. ⌜ now (dst .exit) ≡ lightToCodes (bits depth) (now (src .entry)) ⌝ }
 {
     let mut k = 0;
     while k < src.len() {
-        let bytes = two_bytes(code_of(thresholds, depth, src[k]));
+        let bytes = two_bytes(code_of(starts, thresholds, depth, src[k]));
         dst[2 * k] = bytes.low;
         dst[2 * k + 1] = bytes.high;
         k += 1;
@@ -159,12 +169,12 @@ fn write_codes(thresholds: &[u32], depth: Depth, src: &[i32], dst: &mut [u8])
 }
 
 // The code of a light, clipped.
-fn code_of(thresholds: &[u32], depth: Depth, light: i32) -> u16
-    requires { ⌜ ThresholdTable (bits depth) (now thresholds) ⌝ }
+fn code_of(starts: &[u16; 1268], thresholds: &[u32], depth: Depth, light: i32) -> u16
+    requires { ⌜ StartTable (bits depth) (now starts) × ThresholdTable (bits depth) (now thresholds) ⌝ }
     ensures { λ r. ⌜ r ≡ codeOfLight (bits depth) light ⌝ }
 {
     let offset = 192 * step_of(depth);
-    let level = level_of(thresholds, depth, magnitude(light)) as u16;
+    let level = level_of(starts, thresholds, depth, magnitude(light)) as u16;
     if light < 0 {
         if level < offset { offset - level } else { 0 }
     } else {
@@ -183,15 +193,31 @@ fn magnitude(number: i32) -> u32
     }
 }
 
-// The level of a light without its sign, at most the greatest level of a code. Codes have 320 * step
-// levels from 0 up. The first look leaves 256 * step, a power of two, and each turn leaves a half.
-fn level_of(thresholds: &[u32], depth: Depth, light: u32) -> usize
-    requires { ⌜ ThresholdTable (bits depth) (now thresholds) ⌝ }
+// Where the search for a level starts. An entry is a level of 12 bits, whose step is 8.
+fn start_of(starts: &[u16; 1268], step: u16, light: u32) -> usize
+    requires { ⌜ 1 ≤ step ⌝ }
+    ensures { λ r. ⌜ r ≡ startOf step (now (starts .entry)) light ⌝ }
+{
+    let first = wide(starts[group_of(light)]) * (step as usize) / 8;
+    let last = 320 * (step as usize) - 8;
+    if first < last { first } else { last }
+}
+
+fn wide(x: u16) -> usize
+    ensures { λ r. ⌜ (r ≡ x) × (r < 65536) ⌝ }
+{
+    x as usize
+}
+
+// The level of a light without its sign, at most the greatest level of a code. The start leaves 8 levels,
+// and each turn leaves a half.
+fn level_of(starts: &[u16; 1268], thresholds: &[u32], depth: Depth, light: u32) -> usize
+    requires { ⌜ StartTable (bits depth) (now starts) × ThresholdTable (bits depth) (now thresholds) ⌝ }
     ensures { λ r. ⌜ r ≡ min (levelOfLight (scale (bits depth)) light) (levels (bits depth) - 1) ⌝ }
 {
-    let step = step_of(depth) as usize;
-    let mut level = passed(64 * step, thresholds[64 * step], light);
-    let mut width = 256 * step;
+    let step = step_of(depth);
+    let mut level = start_of(starts, step, light);
+    let mut width = 8;
     while 1 < width {
         let half = width / 2;
         level += passed(half, thresholds[level + half], light);
@@ -249,12 +275,14 @@ pub fn code_of_light(depth: u32, light: i32) -> CodeFound
 {
     match depth {
         10 => {
+            let starts = start_table();
             let thresholds = thresholds_at_ten();
-            CodeFound::Code(code_of(&thresholds, Depth::Ten, light))
+            CodeFound::Code(code_of(&starts, &thresholds, Depth::Ten, light))
         }
         12 => {
+            let starts = start_table();
             let thresholds = thresholds_at_twelve();
-            CodeFound::Code(code_of(&thresholds, Depth::Twelve, light))
+            CodeFound::Code(code_of(&starts, &thresholds, Depth::Twelve, light))
         }
         _ => CodeFound::Refused(Refusal::DepthNotOffered),
     }

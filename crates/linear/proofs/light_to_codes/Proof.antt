@@ -38,7 +38,7 @@ write-codes-requires c κs =
     let e = told .before .before in
     let s = e .before .before .before in
     let exact = accepted-exact true false true (length (now (s .args .src))) (length (now (s .args .dst))) _ _ (sym (e .count-pixels .ensures) ∙ ap said (told .enum-told .given .1)) .1 in
-    (s .pre .1, omega (arith, exact))
+    (s .pre .1, s .pre .2, omega (arith, exact))
 
 enum-told-2 : tie.Need-enum-told-2
 enum-told-2 c = search needs

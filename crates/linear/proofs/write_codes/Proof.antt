@@ -18,11 +18,11 @@ use Rattle.linear.proofs.write_codes.Statement.{statement}
 use Rattle.linear.proofs.write_codes.Tie as tie
 
 abbrev Inv-loop : tie.InvT-loop
-Inv-loop thresholds depth src dst₀ k₀ dst k =
+Inv-loop starts thresholds depth src dst₀ k₀ dst k =
     (k ≤ length src) × (length dst ≡ length dst₀) × Written (lightToCodes (bits depth)) src dst (2 * k) k
 
 abbrev μ-loop : tie.MeasureT-loop
-μ-loop thresholds depth src dst₀ k₀ dst k = length src - k
+μ-loop starts thresholds depth src dst₀ k₀ dst k = length src - k
 
 loop-holds : tie.Need-loop-holds Inv-loop μ-loop
 loop-holds c = (omega arith, refl, refl)
@@ -34,7 +34,7 @@ shared-slice-copy-out-code-of : tie.Need-shared-slice-copy-out-code-of Inv-loop 
 shared-slice-copy-out-code-of c = omega arith
 
 code-of-requires : tie.Need-code-of-requires Inv-loop μ-loop
-code-of-requires c κs = c .before .before .before .before .before .pre .0
+code-of-requires c κs = let p = c .before .before .before .before .before .pre in (p .0, p .1)
 
 two-bytes-requires : tie.Need-two-bytes-requires Inv-loop μ-loop
 two-bytes-requires c κs = search needs

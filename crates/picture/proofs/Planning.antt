@@ -82,7 +82,7 @@ module _ (d : Depth) where
     makes = λ src whole. same-samples true _ (fromSrgb (bits d)) src (from-srgb-computes (bits d)) ∙ by-pixels false true (fromSrgb (bits d)) src whole;
   }
 
-  pub plan-to-srgb : Plans (ToSrgb (bits d)) (Codes (greatest (bits d)) false) (Narrow (cutOf (bits d)))
+  pub plan-to-srgb : Plans (ToSrgb (bits d)) (Codes (greatest (bits d)) false) (Narrow d)
   unfolding converted
   plan-to-srgb = record {
     offered = rw (offered-bits d);

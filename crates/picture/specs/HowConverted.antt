@@ -11,7 +11,7 @@ use Rattle.samples.specs.Samples.{pixelSize, samplesOf, bytesOf, read, write}
 use Rattle.samples.specs.Faults.{wideCoding}
 use Rattle.esrgb.specs.Depths.{bits}
 use Rattle.esrgb.specs.declared.SampleRule.the-variants as sample
-use Rattle.esrgb.specs.HowApplied.{applied, ruleOf}
+use Rattle.esrgb.specs.HowApplied.{applied, ruleOf, cutOf}
 use Rattle.lumachroma.specs.LumaChroma.{toLumaChroma, toRgb}
 use Rattle.picture.specs.declared.Conversion.{Conversion}
 use Rattle.picture.specs.declared.PixelRule.{PixelRule}
@@ -31,19 +31,19 @@ pixelApplied (rule.ToRgb d) = toRgb (bits d)
 -- Whether a loop reads wide samples, whether it writes them, and what it writes.
 abbrev pub readsWide : Work → Bool
 readsWide (Widen line) = false
-readsWide (Narrow cut) = true
+readsWide (Narrow depth) = true
 readsWide (Change change) = true
 readsWide (Pixels rule) = true
 
 abbrev pub writesWide : Work → Bool
 writesWide (Widen line) = true
-writesWide (Narrow cut) = false
+writesWide (Narrow depth) = false
 writesWide (Change change) = true
 writesWide (Pixels rule) = true
 
 abbrev pub made : Work → List ℕ → List ℕ
 made (Widen line) src = bytesOf true (map (applied (sample.Affine line)) (samplesOf false src))
-made (Narrow cut) src = bytesOf false (map (applied (sample.ToEight cut)) (samplesOf true src))
+made (Narrow depth) src = bytesOf false (map (applied (sample.ToEight (cutOf (bits depth)))) (samplesOf true src))
 made (Change change) src = bytesOf true (map (applied (ruleOf change)) (samplesOf true src))
 made (Pixels rule) src = write true (map (pixelApplied rule) (read true src))
 

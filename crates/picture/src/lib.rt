@@ -1,7 +1,6 @@
 // Convert: pictures in byte buffers, from one form to another (rules, section 4). It promises the answer
 // and every byte for any buffers and any depths: a refused call changes nothing, and an accepted one
 // leaves the source's pixels, converted one by one.
-use esrgb::Cut;
 use esrgb::Depth;
 use esrgb::DepthChange;
 use esrgb::Line;
@@ -13,7 +12,7 @@ use refusal::Refusal;
 use samples::Coding;
 use samples::Pixel;
 ghost use mathlib.Core.Path.{_≡_};
-ghost use mathlib.Core.Bool.{true};
+ghost use mathlib.Core.Bool.{true, false};
 ghost use mathlib.Core.List.{[], _∷_, _++_, map};
 ghost use Prim.Native.Nat.{_*_, _+_, _≤_};
 ghost use lib.ListN.{length, take};
@@ -21,7 +20,7 @@ ghost use Rattle.refusal.specs.Answers.{said, leaves};
 ghost use Rattle.samples.specs.Samples.{place, samplesOf, sampleBytes, bytesOf, read, write};
 ghost use Rattle.samples.specs.Faults.{Exact, wideCoding, sourceSays};
 ghost use Rattle.esrgb.specs.Depths.{bits, greatest};
-ghost use Rattle.esrgb.specs.HowApplied.{applied, ruleOf};
+ghost use Rattle.esrgb.specs.HowApplied.{applied, ruleOf, cutOf};
 ghost use Rattle.picture.specs.Convert.{convertSays, convertBytes};
 ghost use Rattle.picture.specs.HowConverted.{pixelApplied, readsWide, writesWide, made, Planned};
 
@@ -80,6 +79,28 @@ fn fill_change(change: DepthChange, src: &[u8], dst: &mut [u8])
     }
 }
 
+// To sRGB. Each depth has a call of its own, and so a loop in which its numbers are constants: by a constant
+// shift a compiler packs 16 samples at once.
+fn fill_srgb(depth: Depth, src: &[u8], dst: &mut [u8])
+    requires { ⌜ length (now dst) ≡ length (samplesOf true (now src)) ⌝ }
+    ensures { λ _. ⌜ now (dst .exit) ≡ bytesOf false (map (applied (SampleRule.ToEight (cutOf (bits depth)))) (samplesOf true (now (src .entry)))) ⌝ }
+{
+    match depth {
+        Depth::Ten => {
+            let cut = esrgb::cut_of(Depth::Ten);
+            fill_samples(SampleRule::ToEight(cut), true, false, src, dst);
+        }
+        Depth::Twelve => {
+            let cut = esrgb::cut_of(Depth::Twelve);
+            fill_samples(SampleRule::ToEight(cut), true, false, src, dst);
+        }
+        Depth::Sixteen => {
+            let cut = esrgb::cut_of(Depth::Sixteen);
+            fill_samples(SampleRule::ToEight(cut), true, false, src, dst);
+        }
+    }
+}
+
 // ---- the loop over pixels
 
 // What is done to each pixel of a picture.
@@ -127,7 +148,7 @@ fn fill_pixels(rule: PixelRule, src: &[u8], dst: &mut [u8])
 // The loop to run, with its numbers.
 pub enum Work {
     Widen(Line),
-    Narrow(Cut),
+    Narrow(Depth),
     Change(DepthChange),
     Pixels(PixelRule),
 }
@@ -171,7 +192,7 @@ fn planned(conversion: Conversion) -> Plan
             Offer::NotOffered => Plan::NotOffered,
         },
         Conversion::ToSrgb { depth } => match esrgb::depth_of(depth) {
-            Offer::Offered(n) => Plan::Run(codes(n, false), Work::Narrow(esrgb::cut_of(n))),
+            Offer::Offered(n) => Plan::Run(codes(n, false), Work::Narrow(n)),
             Offer::NotOffered => Plan::NotOffered,
         },
         Conversion::ChangeDepth { from, to } => match esrgb::depth_of(from) {
@@ -209,8 +230,8 @@ fn fill(work: Work, src: &[u8], dst: &mut [u8])
         Work::Widen(line) => {
             fill_samples(SampleRule::Affine(line), false, true, src, dst);
         }
-        Work::Narrow(cut) => {
-            fill_samples(SampleRule::ToEight(cut), true, false, src, dst);
+        Work::Narrow(depth) => {
+            fill_srgb(depth, src, dst);
         }
         Work::Change(change) => {
             fill_change(change, src, dst);

@@ -30,8 +30,8 @@ fill-samples-requires c κs =
 enum-known-work-2 : tie.Need-enum-known-work-2
 enum-known-work-2 c = search needs
 
-fill-samples-requires-2 : tie.Need-fill-samples-requires-2
-fill-samples-requires-2 c κs =
+fill-srgb-requires : tie.Need-fill-srgb-requires
+fill-srgb-requires c κs =
     let s = c .before .before .before .before .before .before in
     room-samples true false (now (s .args .src)) (now (s .args .dst)) (exact s _ (c .before .before .work2 .given .1))
 
@@ -61,7 +61,7 @@ same-length-2 : tie.Need-same-length-2
 same-length-2 c = search needs
 
 returns-2 : tie.Need-returns-2
-returns-2 c = c .before .before .fill-samples2 .ensures ∙ made-by (c .before .before .before .before .before .before .before .before .before) _ (c .before .before .before .before .before .work2 .given .1)
+returns-2 c = c .before .before .fill-srgb .ensures ∙ made-by (c .before .before .before .before .before .before .before .before .before) _ (c .before .before .before .before .before .work2 .given .1)
 
 same-length-3 : tie.Need-same-length-3
 same-length-3 c = search needs
@@ -82,7 +82,7 @@ fill-spec =
     enum-known-work
     fill-samples-requires
     enum-known-work-2
-    fill-samples-requires-2
+    fill-srgb-requires
     enum-known-work-3
     fill-change-requires
     enum-known-work-4

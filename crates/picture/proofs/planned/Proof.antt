@@ -5,7 +5,7 @@ use mathlib.Core.Path.{_≡_, refl, ap, ap₂, subst, _∙_}
 use Rattle.numbers.proofs.Booleans.{and-false}
 use Rattle.esrgb.specs.Depths.{bits, offered, Names}
 use Rattle.picture.specs.declared.Conversion.the-variants.{FromSrgb, ToSrgb, ChangeDepth, ToLumaChroma, FromLumaChroma}
-use Rattle.picture.specs.declared.Work.the-variants.{Widen, Narrow, Change}
+use Rattle.picture.specs.declared.Work.the-variants.{Widen, Change}
 use Rattle.picture.proofs.Planning.{same-plan, plan-from-srgb, plan-to-srgb, plan-change, plan-to-luma-chroma, plan-from-luma-chroma}
 use borrow.Author.Needs.{needs}
 use Rattle.picture.proofs.planned.Statement.{statement}
@@ -37,9 +37,6 @@ enum-known-n-2 c = search needs
 
 codes-requires : tie.Need-codes-requires
 codes-requires c κs = search needs
-
-cut-of-requires : tie.Need-cut-of-requires
-cut-of-requires c κs = search needs
 
 enum-told-2 : tie.Need-enum-told-2
 enum-told-2 c = search needs
@@ -115,9 +112,9 @@ returns-2 c =
 
 returns-3 : tie.Need-returns-3
 returns-3 c =
-    let conversion = c .before .before .before .before .before .before .before .conversion2 .given in
-    let named = subst (Names (conversion .0 .0)) (c .before .before .before .n2 .given .1) (c .before .before .before .before .before .depth-of2 .ensures) in
-    same-plan (conversion .1 ∙ ap ToSrgb named) (c .before .codes .ensures) (ap Narrow (c .cut-of .ensures)) (plan-to-srgb (c .before .before .before .n2 .given .0 .0))
+    let conversion = c .before .before .before .before .before .before .conversion2 .given in
+    let named = subst (Names (conversion .0 .0)) (c .before .before .n2 .given .1) (c .before .before .before .before .depth-of2 .ensures) in
+    same-plan (conversion .1 ∙ ap ToSrgb named) (c .codes .ensures) refl (plan-to-srgb _)
 
 returns-4 : tie.Need-returns-4
 returns-4 c =
@@ -181,7 +178,6 @@ planned-spec =
     depth-of-requires-2
     enum-known-n-2
     codes-requires
-    cut-of-requires
     enum-told-2
     enum-known-conversion-3
     depth-of-requires-3

@@ -8,7 +8,7 @@ use native.Mathlib.Nat.{le-trans, lt-of-lt-of-le, mul-assoc, mul-comm, mul-left-
 use lib.Bits.{bitOr, or-comm}
 use Rattle.numbers.specs.Rounding.{nearest}
 use Rattle.numbers.proofs.Bits.{low-bits}
-use Rattle.lumachroma.specs.HowDivided.{Middle, clippedAt, Share, lift, allowance, start, Unclipped}
+use Rattle.lumachroma.specs.HowDivided.{Middle, clippedAt, Share, lift, allowance, start, redOfCr, blueOfCb, greenOfCb, greenOfCr, startsAt, Unclipped}
 
 -- P / unit and E / den are the same whole number, if P units are at least E denths, and not as much as E + 1.
 same-quotient : (unit den P E : ℕ) → 0 < den → unit * E ≤ den * P → den * P < unit * (E + 1) → P / unit ≡ E / den
@@ -69,29 +69,44 @@ module _ (h g : ℕ) {up down more less d e : ℕ} (a : Counted (2 * h) (2 * g) 
       (omega (arith, a .low, b .near, dP, uE, hg, lasts, short, downs, next)))
 
 -- ---- red and blue: the share of one chroma is added
-module _ (weight factor middle luma chroma : ℕ) (s : Share 1000 weight (2 ^ 30) factor) (m : Middle middle) (h : chroma ≤ 65535) (few : weight ≤ 2000) where
+module _ (weight factor middle luma chroma : ℕ) (s : Share 1000 weight (2 ^ 30) factor) (few : weight ≤ 2000) (m : Middle middle) (h : chroma ≤ 65535) where
   pub one-unclipped :
       luma ≤ 65535
-      → Unclipped middle (1000 * luma + weight * chroma) (weight * middle) 1000 (luma + (start (2 ^ 30) + factor * chroma - factor * middle) / 2 ^ 30)
+      → Unclipped middle (1000 * luma + weight * chroma) (weight * middle) 1000 (luma + (start (2 ^ 30) - factor * middle + factor * chroma) / 2 ^ 30)
   unfolding clippedAt nearest
   one-unclipped l =
       let up : weight * chroma ≤ 2000 * 65535 = mul-le-mul few h in
       let down : weight * middle ≤ 2000 * 32768 = mul-le-mul few (m .most) in
-      rw (rounded-sum 500 (2 ^ 29) (counted s chroma) (counted s middle) (omega arith) (omega arith) (omega (arith, m .most)) (omega arith))
+      let c = counted s middle in
+      let order : start (2 ^ 30) - factor * middle + factor * chroma ≡ start (2 ^ 30) + factor * chroma - factor * middle = omega (arith, c .low) in
+      rw (order, rounded-sum 500 (2 ^ 29) (counted s chroma) c (omega arith) (omega arith) (omega (arith, m .most)) (omega arith))
       (record { clips = omega arith; least = omega arith; most = omega arith })
 
+pub red-unclipped :
+    (middle luma cr : ℕ) → Middle middle → luma ≤ 65535 → cr ≤ 65535
+    → Unclipped middle (1000 * luma + 1402 * cr) (1402 * middle) 1000 (luma + (startsAt middle .red + redOfCr * cr) / 2 ^ 30)
+red-unclipped middle luma cr m l h = one-unclipped 1402 redOfCr middle luma cr (record { low = omega arith; near = omega arith }) (omega arith) m h l
+
+pub blue-unclipped :
+    (middle luma cb : ℕ) → Middle middle → luma ≤ 65535 → cb ≤ 65535
+    → Unclipped middle (1000 * luma + 1772 * cb) (1772 * middle) 1000 (luma + (startsAt middle .blue + blueOfCb * cb) / 2 ^ 30)
+blue-unclipped middle luma cb m l h = one-unclipped 1772 blueOfCb middle luma cb (record { low = omega arith; near = omega arith }) (omega arith) m h l
+
 -- ---- green: the shares of both chromas are taken away
-module _
-    (of-cb of-cr middle luma cb cr : ℕ) (s : Share 293500 101004 (2 ^ 36) of-cb) (t : Share 293500 209599 (2 ^ 36) of-cr)
-    (m : Middle middle) (h : cb ≤ 65535) (k : cr ≤ 65535) where
-  pub both-unclipped :
-      luma ≤ 65535
-      → Unclipped middle (587000 * luma + (202008 + 419198) * middle) (202008 * cb + 419198 * cr) 587000
-      (luma + (start (2 ^ 36) + (of-cb * middle + of-cr * middle) - (of-cb * cb + of-cr * cr)) / 2 ^ 36)
-  unfolding clippedAt nearest
-  both-unclipped l =
-      rw (rounded-sum 146750 (2 ^ 35) (both (counted s middle) (counted t middle)) (both (counted s cb) (counted t cr)) (omega arith) (omega (arith, m .most)) (omega arith) (omega arith))
-      (record { clips = omega (arith, m .most); least = omega (arith, m .most); most = omega (arith, m .most) })
+cb-share : Share 293500 101004 (2 ^ 36) greenOfCb
+cb-share = record { low = omega arith; near = omega arith }
+
+cr-share : Share 293500 209599 (2 ^ 36) greenOfCr
+cr-share = record { low = omega arith; near = omega arith }
+
+pub green-unclipped :
+    (middle luma cb cr : ℕ) → Middle middle → luma ≤ 65535 → cb ≤ 65535 → cr ≤ 65535
+    → Unclipped middle (587000 * luma + (202008 + 419198) * middle) (202008 * cb + 419198 * cr) 587000
+    (luma + (startsAt middle .green - (greenOfCb * cb + greenOfCr * cr)) / 2 ^ 36)
+unfolding clippedAt nearest
+green-unclipped middle luma cb cr m l h k =
+    rw (rounded-sum 146750 (2 ^ 35) (both (counted cb-share middle) (counted cr-share middle)) (both (counted cb-share cb) (counted cr-share cr)) (omega arith) (omega (arith, m .most)) (omega arith) (omega arith))
+    (record { clips = omega (arith, m .most); least = omega (arith, m .most); most = omega (arith, m .most) })
 
 -- ---- three sums tested at once
 pub together :

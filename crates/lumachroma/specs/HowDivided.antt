@@ -1,8 +1,9 @@
 -- How the code divides: the signed quotient (up − down) / den of a chroma, and that of a channel, which is clipped.
 -- Assumes nothing.
-use Prim.Native.Nat.{ℕ, _+_, _-_, _*_, _/_, _%_, _≤_, _<_, min}
+use Prim.Native.Nat.{ℕ, _+_, _-_, _*_, _/_, _%_, _^_, _≤_, _<_, min}
 use mathlib.Core.Path.{_≡_}
 use Rattle.numbers.specs.Rounding.{nearest, nearestDown}
+use Rattle.lumachroma.specs.declared.Starts.{Starts}
 
 -- The quotient is within 32767.5 of 0, as it is for 16-bit samples whose weights on either side add up to half of den.
 pub record InRange (up down den : ℕ) : Type 0 where
@@ -42,6 +43,28 @@ allowance = 65536
 
 abbrev pub start : ℕ → ℕ
 start unit = lift * unit + unit / 2 + allowance
+
+-- The factors: the shares that rule 2.5 gives a chroma in red, blue and green, in 2^30ths and for green in 2^36ths.
+abbrev pub redOfCr : ℕ
+redOfCr = 1505386037
+
+abbrev pub blueOfCb : ℕ
+blueOfCb = 1902670512
+
+abbrev pub greenOfCb : ℕ
+greenOfCb = 23648865513
+
+abbrev pub greenOfCr : ℕ
+greenOfCr = 49075071905
+
+-- Where the sums start that count a chroma from this middle code.
+abbrev pub startsAt : ℕ → Starts
+startsAt middle =
+    record {
+      red = start (2 ^ 30) - redOfCr * middle;
+      green = start (2 ^ 36) + (greenOfCb * middle + greenOfCr * middle);
+      blue = start (2 ^ 30) - blueOfCb * middle;
+    }
 
 -- The sum is the quotient (up − down) / den to the nearest, plus the lift. Where that is no code, it is none on the same side.
 pub record Unclipped (middle up down den sum : ℕ) : Type 0 where

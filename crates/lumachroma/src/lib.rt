@@ -5,10 +5,10 @@ use esrgb::Depth;
 use esrgb::step_of;
 use samples::Pixel;
 ghost use mathlib.Core.Path.{_≡_};
-ghost use Prim.Native.Nat.{ℕ, _+_, _-_, _*_, _^_, _<_, min};
+ghost use Prim.Native.Nat.{_+_, _-_, _*_, _/_, _^_, _≤_, _<_, min};
 ghost use Rattle.esrgb.specs.Depths.{bits, middle};
 ghost use Rattle.lumachroma.specs.LumaChroma.{chroma, toLumaChroma, toRgb};
-ghost use Rattle.lumachroma.specs.HowDivided.{InRange, Biased, Middle, lift, Share, Unclipped};
+ghost use Rattle.lumachroma.specs.HowDivided.{InRange, Biased, Middle, lift, greenOfCb, greenOfCr, startsAt};
 
 // 1000 times luma, not yet rounded. Chroma comes from it too, and so never from rounded luma.
 fn weighted_sum(red: u16, green: u16, blue: u16) -> u32
@@ -90,24 +90,51 @@ const GREEN_OF_CB: u64 = 23648865513;
 
 const GREEN_OF_CR: u64 = 49075071905;
 
-// Red or blue, not yet clipped: luma plus `factor` units of the chroma's distance from the middle.
-fn add_chroma(middle: u32, luma: u16, chroma: u16, factor: u64) -> u32
-    requires { ⌜ Middle middle × (factor < 2 ^ 31) ⌝ }
-    ensures { λ r. ⌜ ((weight : ℕ) → Share 1000 weight (2 ^ 30) factor → Unclipped middle (1000 * luma + weight * chroma) (weight * middle) 1000 r) ⌝ }
-{
-    let up = START + factor * (chroma as u64);
-    let down = factor * (middle as u64);
-    (luma as u32) + (((up - down) / UNIT) as u32)
+// Where the sums of a depth start, with the shares of its middle code, from which a chroma is counted.
+pub struct Starts {
+    pub red: u64,
+    pub green: u64,
+    pub blue: u64,
 }
 
-// Green, not yet clipped: luma less both chromas' shares.
-fn green_of(middle: u32, luma: u16, cb: u16, cr: u16) -> u32
-    requires { ⌜ Middle middle ⌝ }
-    ensures { λ r. ⌜ Unclipped middle (587000 * luma + (202008 + 419198) * middle) (202008 * cb + 419198 * cr) 587000 r ⌝ }
+fn starts_at(middle: u64) -> Starts
+    requires { ⌜ middle ≤ 32768 ⌝ }
+    ensures { λ r. ⌜ r ≡ startsAt middle ⌝ }
 {
-    let up = GREEN_START + (GREEN_OF_CB * (middle as u64) + GREEN_OF_CR * (middle as u64));
-    let down = GREEN_OF_CB * (cb as u64) + GREEN_OF_CR * (cr as u64);
-    (luma as u32) + (((up - down) / GREEN_UNIT) as u32)
+    Starts {
+        red: START - RED_OF_CR * middle,
+        green: GREEN_START + (GREEN_OF_CB * middle + GREEN_OF_CR * middle),
+        blue: START - BLUE_OF_CB * middle,
+    }
+}
+
+// Each arm names its middle code, so that the starts are constants to a compiler, which would otherwise
+// count from the middle in every turn of a loop.
+fn starts_of(depth: Depth) -> Starts
+    ensures { λ r. ⌜ r ≡ startsAt (middle (bits depth)) ⌝ }
+{
+    match depth {
+        Depth::Ten => starts_at(512),
+        Depth::Twelve => starts_at(2048),
+        Depth::Sixteen => starts_at(32768),
+    }
+}
+
+// Red or blue, not yet clipped: luma and so many units, with the chroma's share.
+fn add_chroma(start: u64, luma: u16, chroma: u16, factor: u64) -> u32
+    requires { ⌜ (start < 2 ^ 49) × (factor < 2 ^ 31) ⌝ }
+    ensures { λ r. ⌜ r ≡ luma + (start + factor * chroma) / 2 ^ 30 ⌝ }
+{
+    (luma as u32) + (((start + factor * (chroma as u64)) / UNIT) as u32)
+}
+
+// Green, not yet clipped: luma and so many units, less both chromas' shares.
+fn green_of(start: u64, luma: u16, cb: u16, cr: u16) -> u32
+    requires { ⌜ (start < 2 ^ 55) × (2 ^ 53 ≤ start) ⌝ }
+    ensures { λ r. ⌜ r ≡ luma + (start - (greenOfCb * cb + greenOfCr * cr)) / 2 ^ 36 ⌝ }
+{
+    let shares = GREEN_OF_CB * (cb as u64) + GREEN_OF_CR * (cr as u64);
+    (luma as u32) + (((start - shares) / GREEN_UNIT) as u32)
 }
 
 // A sum clipped to the codes with this middle code. On the way back the middle stands for the depth, so
@@ -132,9 +159,10 @@ pub fn to_rgb(depth: Depth, p: Pixel) -> Pixel
     ensures { λ r. ⌜ r ≡ toRgb (bits depth) p ⌝ }
 {
     let middle = middle_of(depth);
-    let red = add_chroma(middle, p.first, p.third, RED_OF_CR);
-    let green = green_of(middle, p.first, p.second, p.third);
-    let blue = add_chroma(middle, p.first, p.second, BLUE_OF_CB);
+    let starts = starts_of(depth);
+    let red = add_chroma(starts.red, p.first, p.third, RED_OF_CR);
+    let green = green_of(starts.green, p.first, p.second, p.third);
+    let blue = add_chroma(starts.blue, p.first, p.second, BLUE_OF_CB);
     if (red | green | blue) % LIFT < 2 * middle {
         Pixel {
             first: (red % 65536) as u16,

@@ -11,6 +11,7 @@ use samples::Coding;
 use samples::count_pixels;
 use samples::examine;
 use samples::sample;
+use transfer::starts::FEW_LEVELS;
 use transfer::starts::group_of;
 use transfer::starts::start_table;
 use transfer::table::light_table;
@@ -199,17 +200,18 @@ fn start_of(starts: &[u16; 1268], step: u16, light: u32) -> usize
     ensures { λ r. ⌜ r ≡ startOf step (now (starts .entry)) light ⌝ }
 {
     let first = wide(starts[group_of(light)]) * (step as usize) / 8;
-    let last = 320 * (step as usize) - 8;
+    let last = 320 * (step as usize) - FEW_LEVELS;
     if first < last { first } else { last }
 }
 
+// A level as an index, with its bound.
 fn wide(x: u16) -> usize
     ensures { λ r. ⌜ (r ≡ x) × (r < 65536) ⌝ }
 {
     x as usize
 }
 
-// The level of a light without its sign, at most the greatest level of a code. The start leaves 8 levels,
+// The level of a light without its sign, at most the greatest level of a code. The start leaves few levels,
 // and each turn leaves a half.
 fn level_of(starts: &[u16; 1268], thresholds: &[u32], depth: Depth, light: u32) -> usize
     requires { ⌜ StartTable (bits depth) (now starts) × ThresholdTable (bits depth) (now thresholds) ⌝ }
@@ -217,7 +219,7 @@ fn level_of(starts: &[u16; 1268], thresholds: &[u32], depth: Depth, light: u32) 
 {
     let step = step_of(depth);
     let mut level = start_of(starts, step, light);
-    let mut width = 8;
+    let mut width = FEW_LEVELS;
     while 1 < width {
         let half = width / 2;
         level += passed(half, thresholds[level + half], light);

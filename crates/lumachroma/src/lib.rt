@@ -120,7 +120,7 @@ fn starts_of(depth: Depth) -> Starts
     }
 }
 
-// Red or blue, not yet clipped: luma and so many units, with the chroma's share.
+// Red or blue, not yet clipped: luma plus the start and the chroma's share, in whole codes.
 fn add_chroma(start: u64, luma: u16, chroma: u16, factor: u64) -> u32
     requires { ⌜ (start < 2 ^ 49) × (factor < 2 ^ 31) ⌝ }
     ensures { λ r. ⌜ r ≡ luma + (start + factor * chroma) / 2 ^ 30 ⌝ }
@@ -128,7 +128,7 @@ fn add_chroma(start: u64, luma: u16, chroma: u16, factor: u64) -> u32
     (luma as u32) + (((start + factor * (chroma as u64)) / UNIT) as u32)
 }
 
-// Green, not yet clipped: luma and so many units, less both chromas' shares.
+// Green, not yet clipped: luma plus the start less both chromas' shares, in whole codes.
 fn green_of(start: u64, luma: u16, cb: u16, cr: u16) -> u32
     requires { ⌜ (start < 2 ^ 55) × (2 ^ 53 ≤ start) ⌝ }
     ensures { λ r. ⌜ r ≡ luma + (start - (greenOfCb * cb + greenOfCr * cr)) / 2 ^ 36 ⌝ }

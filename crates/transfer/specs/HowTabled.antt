@@ -1,4 +1,4 @@
--- How the code spares every power: what its constant tables hold.
+-- How the code spares every power and most of a search: what its constant tables hold.
 -- Assumes nothing.
 use Prim.Native.Nat.{ℕ, _+_, _-_, _*_, _/_, _^_, _≤_, _<_, min}
 use mathlib.Core.Path.{_≡_}

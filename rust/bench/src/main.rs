@@ -84,13 +84,15 @@ impl Times {
 
     fn print(&self, operation: &Operation, pixels: usize) {
         let sse2 = self.sse2.map_or("-".into(), |sse2| format!("{sse2:.3}"));
+        let goal = operation
+            .goal
+            .map_or("-".into(), |goal| format!("{goal:.2}"));
         println!(
-            "{:<20} {pixels:>9} {:>8.3} {:>8.3} {sse2:>8} {:>8.2} {:>6.2} {:>9.2}",
+            "{:<20} {pixels:>9} {:>8.3} {:>8.3} {sse2:>8} {:>8.2} {goal:>6} {:>9.2}",
             operation.name,
             self.library,
             self.plain,
             self.ratio(),
-            operation.goal,
             self.library / self.copy
         );
     }
@@ -148,8 +150,16 @@ fn answer(result: Result<usize, impl std::fmt::Debug>) -> i64 {
     result.expect("a sound picture is converted") as i64
 }
 
-fn time_conversion(conversion: Conversion, pixels: usize) -> Times {
-    let src = Buffer::source(&picture(conversion, pixels));
+/// Luma and chroma that no picture has: any numbers, so that most pixels are clipped on the way back.
+fn any_luma_chroma(depth: u32, pixels: usize) -> Vec<u8> {
+    noise(3 * pixels)
+        .map(|x| (x % ((1 << depth) - 1)) as u16 + 1)
+        .flat_map(u16::to_le_bytes)
+        .collect()
+}
+
+fn time_conversion(conversion: Conversion, src: &[u8], pixels: usize) -> Times {
+    let src = Buffer::source(src);
     let room = conversion.needed(src.len());
     let library = |dst: &mut [u8]| answer(kiosk::convert(conversion, &src, dst));
     let plain = |dst: &mut [u8]| c::plain(conversion, &src, dst);
@@ -223,21 +233,28 @@ fn fill_thresholds(depth: u32, offset: u16, thresholds: &mut [u32]) {
 
 enum Call {
     Convert(Conversion),
+    BackFromAny(u32),
     CodeToLight(u32),
     LightToCode(u32),
 }
 
-/// What is timed, and the goal: how long it may take, in times of the better C.
+/// What is timed, and the goal if there is one: how long it may take, in times of the better C.
 struct Operation {
     name: String,
-    goal: f64,
+    goal: Option<f64>,
     call: Call,
 }
 
 impl Operation {
     fn time(&self, pixels: usize) -> Times {
         match self.call {
-            Call::Convert(conversion) => time_conversion(conversion, pixels),
+            Call::Convert(conversion) => {
+                time_conversion(conversion, &picture(conversion, pixels), pixels)
+            }
+            Call::BackFromAny(depth) => {
+                let src = any_luma_chroma(depth, pixels);
+                time_conversion(Conversion::FromLumaChroma { depth }, &src, pixels)
+            }
             Call::CodeToLight(depth) => time_code_to_light(depth, pixels),
             Call::LightToCode(depth) => time_light_to_code(depth, pixels),
         }
@@ -245,40 +262,61 @@ impl Operation {
 }
 
 fn operations() -> Vec<Operation> {
-    let operation = |name: String, goal, call| Operation { name, goal, call };
+    let operation = |name, goal, call| Operation { name, goal, call };
     let convert = |name, goal, conversion| operation(name, goal, Call::Convert(conversion));
     let mut all = Vec::new();
     for depth in [10, 16] {
         let conversion = Conversion::FromSrgb { depth };
-        all.push(convert(format!("sRGB to e-sRGB {depth}"), 1.1, conversion));
+        all.push(convert(
+            format!("sRGB to e-sRGB {depth}"),
+            Some(1.1),
+            conversion,
+        ));
     }
     for depth in [10, 12, 16] {
         let conversion = Conversion::ToSrgb { depth };
-        all.push(convert(format!("e-sRGB {depth} to sRGB"), 0.9, conversion));
+        all.push(convert(
+            format!("e-sRGB {depth} to sRGB"),
+            Some(0.9),
+            conversion,
+        ));
     }
     for (from, to) in [(10, 12), (12, 10), (16, 12)] {
         let conversion = Conversion::ChangeDepth { from, to };
-        all.push(convert(format!("e-sRGB {from} to {to}"), 1.2, conversion));
+        all.push(convert(
+            format!("e-sRGB {from} to {to}"),
+            Some(1.2),
+            conversion,
+        ));
     }
     for depth in [10, 12, 16] {
         let conversion = Conversion::ToLumaChroma { depth };
         all.push(convert(
             format!("luma and chroma {depth}"),
-            1.75,
+            Some(1.75),
             conversion,
         ));
     }
     for depth in [10, 12, 16] {
         let conversion = Conversion::FromLumaChroma { depth };
-        all.push(convert(format!("back to e-sRGB {depth}"), 1.0, conversion));
+        all.push(convert(
+            format!("back to e-sRGB {depth}"),
+            Some(1.0),
+            conversion,
+        ));
     }
+    all.push(operation(
+        "back 10, any colours".into(),
+        None,
+        Call::BackFromAny(10),
+    ));
     for depth in [10, 12] {
         let name = format!("code {depth} to light");
-        all.push(operation(name, 1.5, Call::CodeToLight(depth)));
+        all.push(operation(name, Some(1.5), Call::CodeToLight(depth)));
     }
     for depth in [10, 12] {
         let name = format!("light to code {depth}");
-        all.push(operation(name, 1.2, Call::LightToCode(depth)));
+        all.push(operation(name, Some(1.2), Call::LightToCode(depth)));
     }
     all
 }
@@ -308,7 +346,7 @@ fn compare(operations: &[Operation], sizes: &[usize]) {
         for operation in operations {
             let times = operation.time(pixels);
             times.print(operation, pixels);
-            if operation.goal < times.ratio() {
+            if operation.goal.is_some_and(|goal| goal < times.ratio()) {
                 missed.push(format!("{} at {pixels}", operation.name));
             }
         }

@@ -11,7 +11,6 @@ use samples::Coding;
 use samples::count_pixels;
 use samples::examine;
 use samples::sample;
-use transfer::starts::FEW_LEVELS;
 use transfer::starts::group_of;
 use transfer::starts::start_table;
 use transfer::table::light_table;
@@ -193,6 +192,9 @@ fn magnitude(number: i32) -> u32
         number as u32
     }
 }
+
+// How many levels the table of starts leaves to a search.
+const FEW_LEVELS: usize = 8;
 
 // Where the search for a level starts. An entry is a level of 12 bits, whose step is 8.
 fn start_of(starts: &[u16; 1268], step: u16, light: u32) -> usize

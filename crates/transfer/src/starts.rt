@@ -5,9 +5,6 @@ ghost use mathlib.Core.Path.{_≡_};
 ghost use Prim.Native.Nat.{min};
 ghost use Rattle.transfer.specs.HowTabled.{groupOf, StartTable};
 
-// How many levels a search has left when it starts.
-pub const FEW_LEVELS: usize = 8;
-
 const LAST_GROUP: u32 = 1267;
 
 const STARTS: [u16; 1268] = [

@@ -14,17 +14,17 @@ use std::time::Instant;
 /// Pixels that stay in the cache, a print of 10 by 15 centimetres, and a camera's picture.
 const SIZES: [usize; 3] = [20_000, 1_000_000, 8_000_000];
 
-const ROUNDS: usize = 11;
-
 /// A way to compute an operation's result: its answer is the pixel count.
 type Version<'a, T> = &'a dyn Fn(&mut [T]) -> i64;
 
-/// The best of several rounds for each version, in nanoseconds a pixel. Each round takes every version for some
-/// milliseconds, one after the other, so that all meet the same pace of the machine.
+/// The best of many rounds for each version, in nanoseconds a pixel. A round takes every version once, one after the
+/// other and for a millisecond at least, so that all meet the same pace of the machine; of a small picture there are
+/// more rounds, because others disturb a short time more.
 fn best<T>(pixels: usize, dst: &mut [T], versions: &[Version<T>]) -> Vec<f64> {
-    let turns = (1_000_000 / pixels).max(1);
+    let rounds = (20_000_000 / pixels).clamp(11, 101);
+    let turns = (200_000 / pixels).max(1);
     let mut times = vec![f64::INFINITY; versions.len()];
-    for _ in 0..ROUNDS {
+    for _ in 0..rounds {
         for (time, version) in times.iter_mut().zip(versions) {
             version(dst);
             let start = Instant::now();
@@ -336,7 +336,7 @@ fn sizes() -> Vec<usize> {
 
 /// Times every operation at these sizes, and says which take longer than their goal.
 fn compare(operations: &[Operation], sizes: &[usize]) {
-    println!("ns a pixel, the best of {ROUNDS} rounds, checks of the input included; / is the library's time over the other's");
+    println!("ns a pixel, the best of 11 to 101 rounds, checks of the input included; / is the library's time over the other's");
     println!(
         "{:<20} {:>9} {:>8} {:>8} {:>8} {:>8} {:>6} {:>9}",
         "operation", "pixels", "library", "plain C", "SSE2 C", "/ C", "goal", "/ memcpy"

@@ -196,7 +196,8 @@ fn magnitude(number: i32) -> u32
 // How many levels the table of starts leaves to a search.
 const FEW_LEVELS: usize = 8;
 
-// Where the search for a level starts. An entry is a level of 12 bits, whose step is 8.
+// Where the search for a level starts. An entry is a level of 12 bits, whose step is 8; codes have
+// 320 * step levels from 0 up.
 fn start_of(starts: &[u16; 1268], step: u16, light: u32) -> usize
     requires { ⌜ 1 ≤ step ⌝ }
     ensures { λ r. ⌜ r ≡ startOf step (now (starts .entry)) light ⌝ }

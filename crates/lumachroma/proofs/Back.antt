@@ -44,6 +44,10 @@ both {den} {unit} {v} {w} {f} {g} {x} {y} a b =
       near = omega (arith, a .near, b .near, mul-add den f g, mul-add unit v w, mul-add den x y);
     }
 
+-- A start in half units, but for the allowance: the lift, and a half.
+abbrev halves : ℕ
+halves = 2 * lift + 1
+
 -- What is added and what is taken away, counted in units, make the exact sum to the nearest. Den and unit are even, h and g their halves.
 module _ (h g : ℕ) {up down more less d e : ℕ} (a : Counted (2 * h) (2 * g) up more d) (b : Counted (2 * h) (2 * g) down less e) where
   rounded-sum :
@@ -51,16 +55,16 @@ module _ (h g : ℕ) {up down more less d e : ℕ} (a : Counted (2 * h) (2 * g) 
       → (start (2 * g) + more - less) / (2 * g) ≡ (2 * h * lift + h + up - down) / (2 * h)
   rounded-sum some few short fits =
       let whole : 2 * g / 2 ≡ g = omega arith in
-      let hg : 2 * h * (524289 * g) ≡ 2 * g * (524289 * h) = omega (arith, mul-left-comm (2 * h) 524289 g, mul-left-comm (2 * g) 524289 h, mul-assoc 2 h g, mul-assoc 2 g h, mul-comm h g) in
-      let P : ℕ = 524289 * g + 65536 + more - less in
-      let E : ℕ = 524289 * h + up - down in
-      let dP : 2 * h * P ≡ 2 * h * (524289 * g) + 2 * h * 65536 + 2 * h * more - 2 * h * less =
-      mul-sub (2 * h) (524289 * g + 65536 + more) less ∙ ap (λ (x : ℕ). x - 2 * h * less) (mul-add (2 * h) (524289 * g + 65536) more ∙ ap (λ (x : ℕ). x + 2 * h * more) (mul-add (2 * h) (524289 * g) 65536)) in
-      let uE : 2 * g * E ≡ 2 * g * (524289 * h) + 2 * g * up - 2 * g * down =
-      mul-sub (2 * g) (524289 * h + up) down ∙ ap (λ (x : ℕ). x - 2 * g * down) (mul-add (2 * g) (524289 * h) up) in
-      let shorts : 2 * h * d ≤ 2 * h * 65536 = mul-le-mul-left (2 * h) few in
-      let lasts : 2 * h * (allowance + e) ≡ 2 * h * 65536 + 2 * h * e = mul-add (2 * h) 65536 e in
-      let downs : 2 * g * down ≤ 2 * g * (524289 * h) = mul-le-mul-left (2 * g) (omega arith) in
+      let hg : 2 * h * (halves * g) ≡ 2 * g * (halves * h) = omega (arith, mul-left-comm (2 * h) halves g, mul-left-comm (2 * g) halves h, mul-assoc 2 h g, mul-assoc 2 g h, mul-comm h g) in
+      let P : ℕ = halves * g + allowance + more - less in
+      let E : ℕ = halves * h + up - down in
+      let dP : 2 * h * P ≡ 2 * h * (halves * g) + 2 * h * allowance + 2 * h * more - 2 * h * less =
+      mul-sub (2 * h) (halves * g + allowance + more) less ∙ ap (λ (x : ℕ). x - 2 * h * less) (mul-add (2 * h) (halves * g + allowance) more ∙ ap (λ (x : ℕ). x + 2 * h * more) (mul-add (2 * h) (halves * g) allowance)) in
+      let uE : 2 * g * E ≡ 2 * g * (halves * h) + 2 * g * up - 2 * g * down =
+      mul-sub (2 * g) (halves * h + up) down ∙ ap (λ (x : ℕ). x - 2 * g * down) (mul-add (2 * g) (halves * h) up) in
+      let shorts : 2 * h * d ≤ 2 * h * allowance = mul-le-mul-left (2 * h) few in
+      let lasts : 2 * h * (allowance + e) ≡ 2 * h * allowance + 2 * h * e = mul-add (2 * h) allowance e in
+      let downs : 2 * g * down ≤ 2 * g * (halves * h) = mul-le-mul-left (2 * g) (omega arith) in
       let next : 2 * g * (E + 1) ≡ 2 * g * E + 2 * g = omega (arith, mul-add (2 * g) E 1) in
       let start-is : start (2 * g) + more - less ≡ P = omega (arith, whole) in
       let end-is : 2 * h * lift + h + up - down ≡ E = omega arith in

@@ -91,10 +91,10 @@ const GREEN_OF_CB: u64 = 23648865513;
 const GREEN_OF_CR: u64 = 49075071905;
 
 // Where the sums of a depth start, with the shares of its middle code, from which a chroma is counted.
-pub struct Starts {
-    pub red: u64,
-    pub green: u64,
-    pub blue: u64,
+struct Starts {
+    red: u64,
+    green: u64,
+    blue: u64,
 }
 
 fn starts_at(middle: u64) -> Starts

@@ -9,17 +9,18 @@ mod c;
 use buffer::Buffer;
 use kiosk::Conversion;
 use std::hint::black_box;
+use std::num::NonZeroUsize;
 use std::time::Instant;
 
-/// Pixels that stay in the cache, a print of 10 by 15 centimetres, and a camera's picture.
+/// Pixels that stay in the cache, a million of them, and more than any cache holds.
 const SIZES: [usize; 3] = [20_000, 1_000_000, 8_000_000];
 
 /// A way to compute an operation's result: its answer is the pixel count.
 type Version<'a, T> = &'a dyn Fn(&mut [T]) -> i64;
 
-/// The best of many rounds for each version, in nanoseconds a pixel. A round takes every version once, one after the
-/// other and for a millisecond at least, so that all meet the same pace of the machine; of a small picture there are
-/// more rounds, because others disturb a short time more.
+/// The best of many rounds for each version, in nanoseconds a pixel. A round takes every version, one after the other
+/// and for 200,000 pixels at least, so that all meet the same pace of the machine; of a small picture there are more
+/// rounds, because others disturb a short time more.
 fn best<T>(pixels: usize, dst: &mut [T], versions: &[Version<T>]) -> Vec<f64> {
     let rounds = (20_000_000 / pixels).clamp(11, 101);
     let turns = (200_000 / pixels).max(1);
@@ -325,7 +326,8 @@ fn operations() -> Vec<Operation> {
 fn sizes() -> Vec<usize> {
     let named: Vec<usize> = std::env::args()
         .skip(1)
-        .map(|word| word.parse().expect("a size in pixels"))
+        .map(|word| word.parse::<NonZeroUsize>())
+        .map(|size| size.expect("a size is a number of pixels").get())
         .collect();
     if named.is_empty() {
         SIZES.to_vec()

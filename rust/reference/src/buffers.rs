@@ -106,19 +106,44 @@ impl Conversion {
     }
 }
 
+/// A buffer as rule 4.2 looks at it: its length in bytes or numbers, and how many of them make a sample.
+struct Extent {
+    length: usize,
+    sample: usize,
+}
+
+impl Extent {
+    fn of<T>(buffer: &[T], sample: usize) -> Self {
+        Extent {
+            length: buffer.len(),
+            sample,
+        }
+    }
+}
+
+/// The refusals of rule 4.2 that no sample decides, in their order; or the pixel count.
+fn count_pixels(offered: bool, source: Extent, destination: Extent) -> Result<usize, Refusal> {
+    if !offered {
+        return Err(Refusal::plain(9));
+    }
+    if !source.length.is_multiple_of(3 * source.sample) {
+        return Err(Refusal::plain(10));
+    }
+    let pixels = source.length / (3 * source.sample);
+    if destination.length != pixels * 3 * destination.sample {
+        return Err(Refusal::plain(11));
+    }
+    Ok(pixels)
+}
+
 /// Converts a picture. Accepted, it gives the pixel count.
 pub fn convert(conversion: Conversion, src: &[u8], dst: &mut [u8]) -> Result<usize, Refusal> {
     let (from, to) = (conversion.source(), conversion.target());
-    if !from.offered() || !to.offered() {
-        return Err(Refusal::plain(9));
-    }
-    if !src.len().is_multiple_of(3 * from.width()) {
-        return Err(Refusal::plain(10));
-    }
-    let pixels = src.len() / (3 * from.width());
-    if dst.len() != pixels * 3 * to.width() {
-        return Err(Refusal::plain(11));
-    }
+    let pixels = count_pixels(
+        from.offered() && to.offered(),
+        Extent::of(src, from.width()),
+        Extent::of(dst, to.width()),
+    )?;
     let samples = from.read(src);
     if let Some(refusal) = from.fault(&samples) {
         return Err(refusal);
@@ -133,16 +158,12 @@ pub fn convert(conversion: Conversion, src: &[u8], dst: &mut [u8]) -> Result<usi
 
 /// E-sRGB codes to light. Accepted, it gives the pixel count.
 pub fn code_to_light(depth: u32, src: &[u8], dst: &mut [i32]) -> Result<usize, Refusal> {
-    if !light::offered(depth) {
-        return Err(Refusal::plain(9));
-    }
-    if !src.len().is_multiple_of(6) {
-        return Err(Refusal::plain(10));
-    }
-    if dst.len() != src.len() / 2 {
-        return Err(Refusal::plain(11));
-    }
     let form = Form::Esrgb(depth);
+    let pixels = count_pixels(
+        light::offered(depth),
+        Extent::of(src, form.width()),
+        Extent::of(dst, 1),
+    )?;
     let samples = form.read(src);
     if let Some(refusal) = form.fault(&samples) {
         return Err(refusal);
@@ -150,21 +171,18 @@ pub fn code_to_light(depth: u32, src: &[u8], dst: &mut [i32]) -> Result<usize, R
     for (number, &code) in dst.iter_mut().zip(&samples) {
         *number = light::from_code(depth, code);
     }
-    Ok(src.len() / 6)
+    Ok(pixels)
 }
 
 /// Light to e-sRGB codes. Accepted, it gives the pixel count.
 pub fn light_to_code(depth: u32, src: &[i32], dst: &mut [u8]) -> Result<usize, Refusal> {
-    if !light::offered(depth) {
-        return Err(Refusal::plain(9));
-    }
-    if !src.len().is_multiple_of(3) {
-        return Err(Refusal::plain(10));
-    }
-    if dst.len() != 2 * src.len() {
-        return Err(Refusal::plain(11));
-    }
+    let form = Form::Esrgb(depth);
+    let pixels = count_pixels(
+        light::offered(depth),
+        Extent::of(src, 1),
+        Extent::of(dst, form.width()),
+    )?;
     let codes: Vec<i64> = src.iter().map(|&q| light::to_code(depth, q)).collect();
-    dst.copy_from_slice(&Form::Esrgb(depth).write(&codes));
-    Ok(src.len() / 3)
+    dst.copy_from_slice(&form.write(&codes));
+    Ok(pixels)
 }

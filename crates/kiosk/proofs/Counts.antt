@@ -1,8 +1,8 @@
 -- The counts that operations give fit a signed number of 64 bits: a slice has fewer bytes than that.
 -- Assumes nothing.
-use Prim.Native.Nat.{ℕ, _+_, _*_, _/_, _%_, _^_, _<_}
+use Prim.Native.Nat.{ℕ, _+_, _/_, _^_, _<_}
 use mathlib.Core.Path.{_≡_, refl}
-use mathlib.Core.Bool.{Bool, true, false, cond, not}
+use mathlib.Core.Bool.{Bool, true, false, cond}
 use mathlib.Core.List.{List, [], _∷_}
 use native.Mathlib.Nat.{lt-of-le-of-lt}
 use native.Mathlib.Omega.{arith}
@@ -10,10 +10,11 @@ use lib.Dec.{eqb, ltb, lit<}
 use borrow.Author.Tests.{ltb-false}
 use lib.ListN.{length}
 use Rattle.refusal.specs.Answers.{Verdict, sound, faulty, Said, accepted, refused, decides}
+use Rattle.refusal.proofs.Verdicts.{or-holds}
 use Rattle.samples.specs.declared.Coding.{Coding}
 use Rattle.samples.specs.declared.Coding.the-variants.{Codes}
 use Rattle.samples.specs.Samples.{place, pixelSize, samplesOf}
-use Rattle.samples.specs.Faults.{wideCoding, fault, samplesSay, inOrder, sourceSays}
+use Rattle.samples.specs.Faults.{wideCoding, fault, samplesSay, callFault, sourceSays}
 use Rattle.esrgb.specs.Depths.{greatest}
 use Rattle.picture.specs.declared.Conversion.{Conversion}
 use Rattle.picture.specs.Forms.{codingOf, wideForm}
@@ -45,18 +46,12 @@ pixels : (wide : Bool) (len : ℕ) → len < 2 ^ 63 → len / pixelSize wide < 2
 pixels true len h = omega arith
 pixels false len h = omega arith
 
-ordered : (offered from to : Bool) (len room : ℕ) (s : Said) → Countable s → Countable (inOrder offered from to len room s)
-ordered offered from to len room s h =
-    let exact = cond (not (eqb room (pixelSize to * (len / pixelSize from)))) (refused 11) s in
-    or-refused (not offered) 9 (cond (not (eqb (len % pixelSize from) 0)) (refused 10) exact)
-    (or-refused (not (eqb (len % pixelSize from) 0)) 10 exact (or-refused (not (eqb room (pixelSize to * (len / pixelSize from)))) 11 s h))
-
 source-counts : (offered : Bool) (coding : Coding) (to : Bool) (src : List ℕ) (room : ℕ) → length src < 2 ^ 63
     → Countable (sourceSays offered coding to src room)
 unfolding sourceSays
 source-counts offered coding to src room h =
     let wide = wideCoding coding in
-    ordered offered wide to (length src) room _
+    or-holds Countable (callFault offered wide to (length src) room) _ (λ number. tt)
     (samples-say coding (accepted (length src / pixelSize wide)) (pixels wide (length src) h) 0 (samplesOf wide src))
 
 pub convert-counts : (c : Conversion) (src : List ℕ) (room : ℕ) → length src < 2 ^ 63 → Countable (convertSays c src room)
@@ -67,7 +62,7 @@ light-counts n src room h = source-counts (offersLight n) (Codes (greatest n) fa
 
 pub code-counts : (n numbers room : ℕ) → numbers < 2 ^ 63 → Countable (lightToCodesSays n numbers room)
 code-counts n numbers room h =
-    ordered (offersLight n) false true numbers room (accepted (numbers / 3)) (pixels false numbers h)
+    or-holds Countable (callFault (offersLight n) false true numbers room) (accepted (numbers / 3)) (λ number. tt) (pixels false numbers h)
 
 pub frame-counts : (r : FrameRecord) → r .width < 2 ^ 16 → r .height < 2 ^ 16 → pixelBytes r < 2 ^ 63
 frame-counts r w h = lt-of-le-of-lt (pixels-small r w h) (lit< tt)

@@ -13,7 +13,7 @@ use Rattle.numbers.proofs.Bytes.{AllBytes}
 use Rattle.records.specs.Layout.{headerIn}
 use Rattle.records.proofs.Small.{Small}
 use Rattle.records.specs.Faults.{frameLimit}
-use Rattle.records.proofs.Verdicts.{TwoDigits}
+use Rattle.refusal.proofs.Verdicts.{TwoDigits}
 use Rattle.spool.specs.Open.{openFault, openBy, openSays}
 use Rattle.spool.specs.Find.{FindSaid, finds, refusesFrame, findFault, findBy, findSays, recordAt}
 use Rattle.spool.proofs.OpenFaults.{open-file}

@@ -1,4 +1,3 @@
 pub mod Fields
 pub mod Sizes
-pub mod Verdicts
 pub mod Small

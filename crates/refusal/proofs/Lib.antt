@@ -1,1 +1,2 @@
 pub mod Answering
+pub mod Verdicts

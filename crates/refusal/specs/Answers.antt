@@ -37,6 +37,11 @@ abbrev pub decides : Verdict → ℕ → Said → Said
 decides sound at rest = rest
 decides (faulty number) at rest = refusedAt number at
 
+-- The same of something that has no place.
+abbrev pub refusesOr : Verdict → Said → Said
+refusesOr sound rest = rest
+refusesOr (faulty number) rest = refused number
+
 -- What the destination holds afterwards: what the operation writes if it accepts, and what was there if it refuses.
 abbrev pub leaves : {A : Type 0} → Said → List A → List A → List A
 leaves (accepted n) new old = new

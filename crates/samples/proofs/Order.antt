@@ -2,17 +2,18 @@
 -- Assumes nothing.
 use Prim.Native.Nat.{ℕ, _*_, _/_, _%_, _≤_}
 use mathlib.Core.Path.{_≡_, refl, sym, ap, _∙_}
-use mathlib.Core.Bool.{Bool, true, false}
+use mathlib.Core.Bool.{Bool, true, false, not}
 use mathlib.Core.List.{List}
 use native.Mathlib.Omega.{arith}
-use borrow.Author.Tests.{eq-eqb, ne-eqb, eqb-true}
+use borrow.Author.Tests.{eq-eqb, ne-eqb, eqb-true, not-false}
 use lib.Dec.{eqb}
 use lib.ListN.{length}
-use Rattle.refusal.specs.Answers.{Said, accepted, refused, refusedAt}
+use Rattle.refusal.specs.Answers.{sound, Said, accepted, refused}
+use Rattle.refusal.proofs.Verdicts.{passed, or-accepted, or-refused}
 use Rattle.samples.specs.declared.Coding.{Coding}
 use Rattle.samples.specs.declared.Coding.the-variants.{Bytes, Codes}
 use Rattle.samples.specs.Samples.{pixelSize, twoByTwo, samplesOf}
-use Rattle.samples.specs.Faults.{wideCoding, samplesSay, inOrder, Exact, sourceSays}
+use Rattle.samples.specs.Faults.{wideCoding, samplesSay, callFault, inOrder, Exact, sourceSays}
 use Rattle.samples.proofs.Judging.{bytes-sound}
 
 pub some-size : (wide : Bool) → 3 ≤ pixelSize wide
@@ -45,29 +46,21 @@ module _ (wideIn wideOut : Bool) (len room : ℕ) (samples : Said) where
     says-samples h = rw (whole, eq-eqb room _ h)
 
 -- What an accepted source and its room are.
-accepted-by :
-    (wideIn wideOut : Bool) (len room : ℕ) (samples : Said) (n : ℕ) (o w e : Bool)
-    → eqb (len % pixelSize wideIn) 0 ≡ w → eqb room (pixelSize wideOut * (len / pixelSize wideIn)) ≡ e
-    → inOrder o wideIn wideOut len room samples ≡ accepted n → (o ≡ true) × Exact wideIn wideOut len room × (samples ≡ accepted n)
-accepted-by wideIn wideOut len room samples n false w e f g h = let z : _≡_ {A = ℕ} 0 1 = cc in absurd (omega arith)
-accepted-by wideIn wideOut len room samples n true false e f g h = let z : _≡_ {A = ℕ} 0 1 = cc in absurd (omega arith)
-accepted-by wideIn wideOut len room samples n true true false f g h = let z : _≡_ {A = ℕ} 0 1 = cc in absurd (omega arith)
-accepted-by wideIn wideOut len room samples n true true true f g h =
-    (refl, record { whole = eqb-true _ 0 f; room-is = eqb-true room _ g }, rw (f, g) at h)
+sound-exact :
+    (offered wideIn wideOut : Bool) (len room : ℕ) → callFault offered wideIn wideOut len room ≡ sound → (offered ≡ true) × Exact wideIn wideOut len room
+sound-exact offered wideIn wideOut len room h =
+    let depth = passed (not offered) 9 _ h in
+    let pixels = passed (not (eqb (len % pixelSize wideIn) 0)) 10 _ (depth .1) in
+    let fits = passed (not (eqb room (pixelSize wideOut * (len / pixelSize wideIn)))) 11 sound (pixels .1) in
+    (not-false _ (depth .0), record { whole = eqb-true _ 0 (not-false _ (pixels .0)); room-is = eqb-true room _ (not-false _ (fits .0)) })
 
 pub accepted-exact :
     (offered wideIn wideOut : Bool) (len room : ℕ) (samples : Said) (n : ℕ) → inOrder offered wideIn wideOut len room samples ≡ accepted n
     → (offered ≡ true) × Exact wideIn wideOut len room × (samples ≡ accepted n)
-accepted-exact offered wideIn wideOut len room samples n h = accepted-by wideIn wideOut len room samples n offered _ _ refl refl h
-
--- A refusal of the lengths stands, whatever the samples say.
-refused-by :
-    (wideIn wideOut : Bool) (len room : ℕ) (p : ℕ) (samples s : Said) → ((n : ℕ) → s ≡ accepted n → ⊥) → (w e : Bool)
-    → eqb (len % pixelSize wideIn) 0 ≡ w → eqb room (pixelSize wideOut * (len / pixelSize wideIn)) ≡ e
-    → inOrder true wideIn wideOut len room (accepted p) ≡ s → inOrder true wideIn wideOut len room samples ≡ s
-refused-by wideIn wideOut len room p samples s never false e f g h = rw f (rw f at h)
-refused-by wideIn wideOut len room p samples s never true false f g h = rw (f, g) (rw (f, g) at h)
-refused-by wideIn wideOut len room p samples s never true true f g h = absurd (never p (sym (rw (f, g) at h)))
+accepted-exact offered wideIn wideOut len room samples n h =
+    let said = or-accepted (callFault offered wideIn wideOut len room) samples n h in
+    let exact = sound-exact offered wideIn wideOut len room (said .0) in
+    (exact .0, exact .1, said .1)
 
 -- ---- a source of bytes, and one of codes, whose lengths are looked at first
 module _ (wideOut : Bool) (src : List ℕ) (room : ℕ) where
@@ -90,13 +83,7 @@ module _ (wideOut : Bool) (src : List ℕ) (room : ℕ) where
         ((n : ℕ) → s ≡ accepted n → ⊥) → s ≡ inOrder true true wideOut (length src) room (accepted (length src / 6))
         → s ≡ sourceSays true (Codes greatest chroma) wideOut src room
     unfolding sourceSays
-    codes-refused never h = sym (refused-by true wideOut (length src) room (length src / 6) _ s never _ _ refl refl (sym h))
-
-pub not-accepted : (number : ℕ) (n : ℕ) → refused number ≡ accepted n → ⊥
-not-accepted number n h = let z : _≡_ {A = ℕ} 0 1 = cc in omega arith
-
-pub not-accepted-at : (number at : ℕ) (n : ℕ) → refusedAt number at ≡ accepted n → ⊥
-not-accepted-at number at n h = let z : _≡_ {A = ℕ} 0 1 = cc in omega arith
+    codes-refused never h = or-refused (callFault true true wideOut (length src) room) (length src / 6) _ s never h
 
 -- What an accepted source is.
 pub source-exact :

@@ -12,6 +12,7 @@ use borrow.Author.Tests.{lt-ltb, le-ltb, ltb-true, ltb-false, not-false}
 use Rattle.refusal.specs.declared.Refusal.{Refusal}
 use Rattle.refusal.specs.Refusals.{numberOf}
 use Rattle.refusal.specs.Answers.{Verdict, sound, faulty}
+use Rattle.refusal.proofs.Verdicts.{passed, both-sound}
 use Rattle.records.specs.declared.FrameRecord.{FrameRecord}
 use Rattle.spool.specs.declared.Found.{Found}
 use Rattle.spool.specs.declared.Found.the-variants.{Frame}
@@ -22,7 +23,6 @@ use Rattle.records.specs.Layout.{headerSize, recordSize, noRecord, headerIn, re
 use Rattle.records.specs.Faults.{recordFault, pixelBytes}
 use Rattle.spool.specs.Open.{openFault, openSaid, openSays}
 use Rattle.spool.specs.Find.{FindSaid, finds, refusesFrame, findBy, recordAt, pixelsOutside, pixelEnd, frameSays, findFault, findSaid, findSays, pixelsStart, pixelsLength, framePixels}
-use Rattle.records.proofs.Verdicts.{passed, both-sound}
 use Rattle.numbers.proofs.Booleans.{or-false}
 use Rattle.spool.proofs.OpenFaults.{open-file, opens-sound, refused-fault}
 

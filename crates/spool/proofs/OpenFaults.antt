@@ -9,11 +9,11 @@ use lib.ListN.{length}
 use lib.Dec.{eqb, ltb}
 use borrow.Author.Tests.{lt-ltb, le-ltb, eq-eqb, ne-eqb, ltb-false}
 use Rattle.refusal.specs.Answers.{Verdict, sound, faulty}
+use Rattle.refusal.proofs.Verdicts.{passed}
 use Rattle.records.specs.declared.Header.{Header}
 use Rattle.records.specs.Layout.{headerIn, headerSize, recordSize}
 use Rattle.records.specs.Faults.{frameLimit}
 use Rattle.spool.specs.Open.{opens, refusesFile, openFault, openBy, tableEnd}
-use Rattle.records.proofs.Verdicts.{passed}
 use Rattle.numbers.proofs.Booleans.{or-false}
 
 pub too-short : (file : List ℕ) → length file < headerSize → openFault file ≡ faulty 1

@@ -8,10 +8,10 @@ use lib.ListN.{length}
 use lib.Dec.{eqb, ltb}
 use Rattle.numbers.proofs.Bytes.{AllBytes}
 use Rattle.refusal.specs.Answers.{sound}
+use Rattle.refusal.proofs.Verdicts.{TwoDigits, test-short, either-short}
 use Rattle.records.specs.Layout.{headerSize, recordSize, headerIn}
 use Rattle.records.specs.Faults.{frameLimit, recordFault}
-use Rattle.records.proofs.Small.{Small, record-small, dropped}
-use Rattle.records.proofs.Verdicts.{TwoDigits, test-short, either-short, record-fault-short}
+use Rattle.records.proofs.Small.{Small, record-small, dropped, record-fault-short}
 use Rattle.spool.specs.Open.{openFault, tableEnd}
 use Rattle.spool.specs.Find.{findFault, pixelsOutside, recordAt}
 

@@ -3,8 +3,9 @@
 use mathlib.Core.Path.{sym, ap, _∙_}
 use denote.Ref.{now}
 use Rattle.refusal.specs.Answers.{said}
+use Rattle.refusal.proofs.Verdicts.{not-accepted, not-accepted-at}
 use Rattle.samples.specs.Faults.{sourceSays}
-use Rattle.samples.proofs.Order.{bytes-say, codes-say, codes-refused, not-accepted, not-accepted-at}
+use Rattle.samples.proofs.Order.{bytes-say, codes-say, codes-refused}
 use borrow.Author.Needs.{needs}
 use Rattle.samples.proofs.examine.Statement.{statement}
 use Rattle.samples.proofs.examine.Tie as tie

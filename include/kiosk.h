@@ -49,12 +49,13 @@ enum kiosk_refusal {
     KIOSK_WRONG_SIZE = 7,                /* a width or height of 0 or above 8,192 */
     KIOSK_PIXELS_OUTSIDE = 8,            /* the pixels are not inside the file behind the header */
     KIOSK_DEPTH_NOT_OFFERED = 9,         /* a depth that is not offered */
-    KIOSK_NOT_WHOLE_PIXELS = 10,         /* the source is not a whole number of pixels */
+    KIOSK_NOT_WHOLE_SAMPLES = 10,        /* the source is not whole samples: an odd length, two bytes each */
     KIOSK_WRONG_DESTINATION_LENGTH = 11, /* the destination has not exactly the length needed */
     KIOSK_SAMPLE_TOO_GREAT = 12,         /* a sample above the greatest of its depth; place: its byte offset */
     KIOSK_CHROMA_ZERO = 13,              /* a chroma of code 0; place: its byte offset */
     KIOSK_TOTAL_TOO_LONG = 14,           /* a spool longer than 4,294,967,295 bytes */
-    KIOSK_INPUT_TOO_LONG = 15            /* a file too long for the listing: only its text says so */
+    KIOSK_INPUT_TOO_LONG = 15,           /* a file too long for the listing: only its text says so */
+    KIOSK_NOT_WHOLE_PIXELS = 16          /* the source is whole samples, and not whole pixels */
 };
 
 /* What a frame's pixels are (rule 7.3). */
@@ -75,7 +76,8 @@ struct kiosk_record {
     uint32_t order;
 };
 
-/* ---- Pictures (rule 4). Conversions give the pixel count, or refuse with 9, 10, 11, 12 or 13. ---- */
+/* ---- Pictures (rule 4). Conversions give the pixel count, or refuse with 9, 10, 16, 11, 12 or 13, in the
+ * order of rule 4.2. Of 8-bit sRGB any length is whole samples: 16, and never 10. ---- */
 
 /* Converts 8-bit sRGB to e-sRGB of the given depth. */
 int64_t kiosk_from_srgb(uint32_t depth, const uint8_t *src, size_t src_len,
@@ -116,11 +118,11 @@ void kiosk_both_runs(uint32_t depth, const uint8_t *picture, size_t picture_len,
 
 /* ---- Linear light (rule 6), in signed millionths of reference white. Both give the pixel count. ---- */
 
-/* Converts e-sRGB codes to light: dst_len counts numbers. Refuses with 9, 10, 11 or 12. */
+/* Converts e-sRGB codes to light: dst_len counts numbers. Refuses with 9, 10, 16, 11 or 12. */
 int64_t kiosk_code_to_light(uint32_t depth, const uint8_t *src, size_t src_len,
                             int32_t *dst, size_t dst_len, size_t *place);
 
-/* Converts light to e-sRGB codes, clipping: src_len counts numbers. Refuses with 9, 10 or 11. */
+/* Converts light to e-sRGB codes, clipping: src_len counts numbers. Refuses with 9, 16 or 11. */
 int64_t kiosk_light_to_code(uint32_t depth, const int32_t *src, size_t src_len,
                             uint8_t *dst, size_t dst_len);
 

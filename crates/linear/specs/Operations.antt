@@ -20,8 +20,8 @@ use Rattle.linear.specs.declared.CodeFound.{CodeFound}
 use Rattle.linear.specs.declared.CodeFound.the-variants as code-found
 use Rattle.linear.specs.declared.CodeFound.the-variants.{Code}
 
--- Codes to light: 9, 10, 11, then the samples, in Convert's order. The source is bytes, two to a sample, and the destination has
--- `room` numbers, one to a sample.
+-- Codes to light refuse as Convert does, in its order. The source is bytes, two to a sample, and the destination has `room`
+-- numbers, one to a sample.
 abbrev pub codesToLightSays : ℕ → List ℕ → ℕ → Said
 codesToLightSays n src room = sourceSays (offersLight n) (Codes (greatest n) false) false src room
 
@@ -29,8 +29,8 @@ codesToLightSays n src room = sourceSays (offersLight n) (Codes (greatest n) fal
 abbrev pub codesToLight : ℕ → List ℕ → List ℤ
 codesToLight n src = map (lightOfCode n) (twoByTwo src)
 
--- Light to codes: 9, 10, 11, and no number is at fault. The source is so many numbers, one to a sample, and the destination has
--- `room` bytes, two to a sample.
+-- Light to codes do too, and no number is at fault. The source is so many numbers, one to a sample, and the destination has `room`
+-- bytes, two to a sample.
 abbrev pub lightToCodesSays : ℕ → ℕ → ℕ → Said
 lightToCodesSays n numbers room = inOrder (offersLight n) false true numbers room (accepted (numbers / 3))
 

@@ -14,6 +14,14 @@ pub passed : (b : Bool) (n : ℕ) (v : Verdict) → cond b (faulty n) v ≡ soun
 passed true n v e = absurd (faulty-sound n e)
 passed false n v e = (refl, e)
 
+-- A number that no test of a row has is never its verdict.
+pub sound-other : (k : ℕ) → sound ≡ faulty k → ⊥
+sound-other k e = let z : _≡_ {A = ℕ} 0 1 = cc in omega arith
+
+pub test-other : (b : Bool) (n k : ℕ) (v : Verdict) → (n ≡ k → ⊥) → (v ≡ faulty k → ⊥) → cond b (faulty n) v ≡ faulty k → ⊥
+test-other true n k v other never e = other cc
+test-other false n k v other never e = never e
+
 pub both-sound : (v w : Verdict) → orElse v w ≡ sound → (v ≡ sound) × (w ≡ sound)
 both-sound sound w e = (refl, e)
 both-sound (faulty n) w e = absurd (faulty-sound n e)
@@ -46,6 +54,10 @@ or-holds P (faulty n) rest r h = r n
 pub or-accepted : (v : Verdict) (rest : Said) (n : ℕ) → refusesOr v rest ≡ accepted n → (v ≡ sound) × (rest ≡ accepted n)
 or-accepted sound rest n h = (refl, h)
 or-accepted (faulty k) rest n h = absurd (not-accepted k n h)
+
+pub or-other : (v : Verdict) (k : ℕ) (rest : Said) → (v ≡ faulty k → ⊥) → (rest ≡ refused k → ⊥) → refusesOr v rest ≡ refused k → ⊥
+or-other sound k rest never other h = other h
+or-other (faulty n) k rest never other h = never cc
 
 -- A refusal stands, whatever the rest is.
 pub or-refused :

@@ -3,8 +3,9 @@
 use Prim.Native.Nat.{ℕ}
 use Rattle.refusal.specs.declared.Refusal.{Refusal}
 use Rattle.refusal.specs.declared.Refusal.the-variants.{TooShort, WrongFileLength, TooManyFrames, TableOutside, NoSuchFrame}
-use Rattle.refusal.specs.declared.Refusal.the-variants.{UnknownKind, WrongSize, PixelsOutside, DepthNotOffered, NotWholePixels}
+use Rattle.refusal.specs.declared.Refusal.the-variants.{UnknownKind, WrongSize, PixelsOutside, DepthNotOffered, NotWholeSamples}
 use Rattle.refusal.specs.declared.Refusal.the-variants.{WrongDestinationLength, SampleTooGreat, ChromaZero, TotalTooLong, InputTooLong}
+use Rattle.refusal.specs.declared.Refusal.the-variants.{NotWholePixels}
 
 abbrev pub numberOf : Refusal → ℕ
 numberOf TooShort = 1
@@ -16,9 +17,10 @@ numberOf UnknownKind = 6
 numberOf WrongSize = 7
 numberOf PixelsOutside = 8
 numberOf DepthNotOffered = 9
-numberOf NotWholePixels = 10
+numberOf NotWholeSamples = 10
 numberOf WrongDestinationLength = 11
 numberOf SampleTooGreat = 12
 numberOf ChromaZero = 13
 numberOf TotalTooLong = 14
 numberOf InputTooLong = 15
+numberOf NotWholePixels = 16

@@ -24,8 +24,8 @@ pub enum Refusal {
     PixelsOutside,
     // 9: a depth that is not offered.
     DepthNotOffered,
-    // 10: the source is not a whole number of pixels.
-    NotWholePixels,
+    // 10: the source is not whole samples.
+    NotWholeSamples,
     // 11: the destination has not exactly the length needed.
     WrongDestinationLength,
     // 12: a sample above the greatest of its depth.
@@ -36,6 +36,8 @@ pub enum Refusal {
     TotalTooLong,
     // 15: more input than the listing program takes.
     InputTooLong,
+    // 16: the source is whole samples, and not whole pixels.
+    NotWholePixels,
 }
 
 // The number of a refusal.
@@ -52,12 +54,13 @@ pub fn number(refusal: Refusal) -> u8
         Refusal::WrongSize => 7,
         Refusal::PixelsOutside => 8,
         Refusal::DepthNotOffered => 9,
-        Refusal::NotWholePixels => 10,
+        Refusal::NotWholeSamples => 10,
         Refusal::WrongDestinationLength => 11,
         Refusal::SampleTooGreat => 12,
         Refusal::ChromaZero => 13,
         Refusal::TotalTooLong => 14,
         Refusal::InputTooLong => 15,
+        Refusal::NotWholePixels => 16,
     }
 }
 

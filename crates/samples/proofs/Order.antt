@@ -9,16 +9,25 @@ use borrow.Author.Tests.{eq-eqb, ne-eqb, eqb-true, not-false}
 use lib.Dec.{eqb}
 use lib.ListN.{length}
 use Rattle.refusal.specs.Answers.{sound, Said, accepted, refused}
-use Rattle.refusal.proofs.Verdicts.{passed, or-accepted, or-refused}
+use Rattle.refusal.proofs.Verdicts.{passed, sound-other, test-other, or-accepted, or-other, or-refused}
 use Rattle.samples.specs.declared.Coding.{Coding}
 use Rattle.samples.specs.declared.Coding.the-variants.{Bytes, Codes}
-use Rattle.samples.specs.Samples.{pixelSize, twoByTwo, samplesOf}
+use Rattle.samples.specs.Samples.{sampleSize, pixelSize, twoByTwo, samplesOf}
 use Rattle.samples.specs.Faults.{wideCoding, samplesSay, callFault, inOrder, Exact, sourceSays}
 use Rattle.samples.proofs.Judging.{bytes-sound}
+
+pub some-sample : (wide : Bool) → 1 ≤ sampleSize wide
+some-sample true = omega arith
+some-sample false = omega arith
 
 pub some-size : (wide : Bool) → 3 ≤ pixelSize wide
 some-size true = omega arith
 some-size false = omega arith
+
+-- Whole pixels are whole samples, and so is every source whose samples take one byte or number each.
+samples-whole : (wide : Bool) (len : ℕ) → len % pixelSize wide ≡ 0 → len % sampleSize wide ≡ 0
+samples-whole true len h = omega arith
+samples-whole false len h = omega arith
 
 -- The room for so many pixels, by what is left over and the quotient.
 pub exact-room : (wideOut : Bool) (room pixels : ℕ) → room % pixelSize wideOut ≡ 0 → room / pixelSize wideOut ≡ pixels → room ≡ pixelSize wideOut * pixels
@@ -35,22 +44,37 @@ quotient-is false room pixels h = omega arith
 
 -- What the tests lead to.
 module _ (wideIn wideOut : Bool) (len room : ℕ) (samples : Said) where
-  pub says-10 : (len % pixelSize wideIn ≡ 0 → ⊥) → inOrder true wideIn wideOut len room samples ≡ refused 10
+  pub says-10 : (len % sampleSize wideIn ≡ 0 → ⊥) → inOrder true wideIn wideOut len room samples ≡ refused 10
   says-10 h = rw (ne-eqb _ 0 h)
+
+  pub says-16 : len % sampleSize wideIn ≡ 0 → (len % pixelSize wideIn ≡ 0 → ⊥) → inOrder true wideIn wideOut len room samples ≡ refused 16
+  says-16 whole h = rw (whole, ne-eqb _ 0 h)
 
   module _ (whole : len % pixelSize wideIn ≡ 0) where
     pub says-11 : (room ≡ pixelSize wideOut * (len / pixelSize wideIn) → ⊥) → inOrder true wideIn wideOut len room samples ≡ refused 11
-    says-11 h = rw (whole, ne-eqb room _ h)
+    says-11 h = rw (samples-whole wideIn len whole, whole, ne-eqb room _ h)
 
     pub says-samples : room ≡ pixelSize wideOut * (len / pixelSize wideIn) → inOrder true wideIn wideOut len room samples ≡ samples
-    says-samples h = rw (whole, eq-eqb room _ h)
+    says-samples h = rw (samples-whole wideIn len whole, whole, eq-eqb room _ h)
+
+-- Samples that take one byte or number each are always whole: 10 is never said of them.
+pub never-10 :
+    (offered wideOut : Bool) (len room : ℕ) (samples : Said) → (samples ≡ refused 10 → ⊥) → inOrder offered false wideOut len room samples ≡ refused 10 → ⊥
+never-10 offered wideOut len room samples =
+    let whole : len % sampleSize false ≡ 0 = omega arith in
+    let room-fault = not (eqb room (pixelSize wideOut * (len / pixelSize false))) in
+    or-other (callFault offered false wideOut len room) 10 samples
+    (rw whole
+    (test-other (not offered) 9 10 _ (omega arith)
+    (test-other (not (eqb (len % pixelSize false) 0)) 16 10 _ (omega arith) (test-other room-fault 11 10 sound (omega arith) (sound-other 10)))))
 
 -- What an accepted source and its room are.
 sound-exact :
     (offered wideIn wideOut : Bool) (len room : ℕ) → callFault offered wideIn wideOut len room ≡ sound → (offered ≡ true) × Exact wideIn wideOut len room
 sound-exact offered wideIn wideOut len room h =
     let depth = passed (not offered) 9 _ h in
-    let pixels = passed (not (eqb (len % pixelSize wideIn) 0)) 10 _ (depth .1) in
+    let whole = passed (not (eqb (len % sampleSize wideIn) 0)) 10 _ (depth .1) in
+    let pixels = passed (not (eqb (len % pixelSize wideIn) 0)) 16 _ (whole .1) in
     let fits = passed (not (eqb room (pixelSize wideOut * (len / pixelSize wideIn)))) 11 sound (pixels .1) in
     (not-false _ (depth .0), record { whole = eqb-true _ 0 (not-false _ (pixels .0)); room-is = eqb-true room _ (not-false _ (fits .0)) })
 

@@ -10,7 +10,7 @@ use lib.ListN.{length}
 use Rattle.refusal.specs.Answers.{Verdict, sound, faulty, Said, accepted, decides, refusesOr}
 use Rattle.samples.specs.declared.Coding.{Coding}
 use Rattle.samples.specs.declared.Coding.the-variants.{Bytes, Codes}
-use Rattle.samples.specs.Samples.{place, pixelSize, samplesOf}
+use Rattle.samples.specs.Samples.{place, sampleSize, pixelSize, samplesOf}
 
 -- Rule 3.1: codes have more than 8 bits.
 abbrev pub wideCoding : Coding → Bool
@@ -30,20 +30,21 @@ samplesSay coding done k (x ∷ xs) =
     decides (fault coding k x) (place (wideCoding coding) k) (samplesSay coding done (k + 1) xs)
 
 -- Rule 4.2, the order of refusals of every operation on pictures: is the depth offered; is the source, of `len` bytes or numbers, whole
--- pixels; has the destination the `room` for them. Samples are wide or not, in the source and in the result; light is counted in
--- numbers, one to a sample (rule 6.7).
+-- samples, and is it whole pixels; has the destination the `room` for them. Samples are wide or not, in the source and in the result;
+-- light is counted in numbers, one to a sample (rule 6.7). So of sRGB and of light, any length is whole samples.
 abbrev pub callFault : Bool → Bool → Bool → ℕ → ℕ → Verdict
 callFault offered wideIn wideOut len room =
     cond (not offered) (faulty 9)
-    (cond (not (eqb (len % pixelSize wideIn) 0)) (faulty 10)
+    (cond (not (eqb (len % sampleSize wideIn) 0)) (faulty 10)
+    (cond (not (eqb (len % pixelSize wideIn) 0)) (faulty 16)
     (cond (not (eqb room (pixelSize wideOut * (len / pixelSize wideIn)))) (faulty 11)
-    sound))
+    sound)))
 
 -- At last what the samples say.
 abbrev pub inOrder : Bool → Bool → Bool → ℕ → ℕ → Said → Said
 inOrder offered wideIn wideOut len room samples = refusesOr (callFault offered wideIn wideOut len room) samples
 
--- Lengths that neither 10 nor 11 refuses.
+-- Lengths that none of these refuses: whole pixels are whole samples.
 pub record Exact (wideIn wideOut : Bool) (len room : ℕ) : Type 0 where
   pub whole : len % pixelSize wideIn ≡ 0
   pub room-is : room ≡ pixelSize wideOut * (len / pixelSize wideIn)

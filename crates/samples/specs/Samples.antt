@@ -21,6 +21,10 @@ abbrev pub sampleCount : Bool → ℕ → ℕ
 sampleCount true bytes = bytes / 2
 sampleCount false bytes = bytes
 
+-- Rule 3.1: the bytes of a sample.
+abbrev pub sampleSize : Bool → ℕ
+sampleSize wide = place wide 1
+
 -- Rule 3.2: the bytes of a pixel.
 abbrev pub pixelSize : Bool → ℕ
 pixelSize wide = place wide 3

@@ -11,11 +11,18 @@ ghost use mathlib.Core.Bool.{true, false};
 ghost use Prim.Native.Nat.{_/_, _*_, _+_, _<_};
 ghost use lib.ListN.{length, getD};
 ghost use Rattle.refusal.specs.Answers.{verdict, said, accepted};
-ghost use Rattle.samples.specs.Samples.{sampleCount, pixelSize, twoByTwo, samplesOf, noPixel, read};
+ghost use Rattle.samples.specs.Samples.{sampleCount, sampleSize, pixelSize, twoByTwo, samplesOf, noPixel, read};
 ghost use Rattle.samples.specs.Faults.{fault, samplesSay, inOrder, sourceSays};
 ghost use Rattle.samples.specs.HowJudged.{leastOf, allWithin, atFault, SoundTo};
 
 // ---- sizes
+
+// The bytes of a sample.
+fn sample_size(wide: bool) -> usize
+    ensures { λ r. ⌜ r ≡ sampleSize wide ⌝ }
+{
+    if wide { 2 } else { 1 }
+}
 
 // The bytes of a pixel.
 pub fn pixel_size(wide: bool) -> usize
@@ -202,23 +209,28 @@ fn judge(chroma: bool, greatest: u16, src: &[u8], pixels: usize) -> Answer
 
 // ---- the order of refusals
 
-// The pixel count of a source of `len` bytes or numbers, if it is whole pixels and the room for its
-// result is what they need. Samples are wide or not, in the source and in the result. Quotients are compared, since a product could overflow.
+// The pixel count of a source of `len` bytes or numbers, if it is whole samples and whole pixels, and the
+// room for its result is what they need. Samples are wide or not, in the source and in the result.
+// Quotients are compared, since a product could overflow.
 pub fn count_pixels(wide_in: bool, wide_out: bool, len: usize, room: usize) -> Answer
     ensures { λ r. ⌜ said r ≡ inOrder true «wide_in» «wide_out» len room (accepted (len / pixelSize «wide_in»)) ⌝ }
 {
-    let size = pixel_size(wide_in);
-    if len % size != 0 {
+    let sample_in = sample_size(wide_in);
+    let pixel_in = pixel_size(wide_in);
+    let pixel_out = pixel_size(wide_out);
+    if len % sample_in != 0 {
+        return Answer::Refused(Refusal::NotWholeSamples);
+    }
+    if len % pixel_in != 0 {
         return Answer::Refused(Refusal::NotWholePixels);
     }
-    let needed = pixel_size(wide_out);
-    if room % needed != 0 {
+    if room % pixel_out != 0 {
         return Answer::Refused(Refusal::WrongDestinationLength);
     }
-    if room / needed != len / size {
+    if room / pixel_out != len / pixel_in {
         return Answer::Refused(Refusal::WrongDestinationLength);
     }
-    Answer::Done(len / size)
+    Answer::Done(len / pixel_in)
 }
 
 // What is said of a source in bytes, for a result whose samples are wide or not, in so much room: all

@@ -4,7 +4,14 @@
  */
 #include "plain.h"
 
-enum { NOT_OFFERED = -9, NOT_WHOLE = -10, WRONG_ROOM = -11, TOO_GREAT = -12, CHROMA_ZERO = -13 };
+enum {
+    NOT_OFFERED = -9,
+    NOT_WHOLE_SAMPLES = -10,
+    WRONG_ROOM = -11,
+    TOO_GREAT = -12,
+    CHROMA_ZERO = -13,
+    NOT_WHOLE_PIXELS = -16
+};
 
 static int offered(uint32_t depth)
 {
@@ -27,14 +34,17 @@ static void put(uint8_t *bytes, size_t k, uint32_t value)
     bytes[2 * k + 1] = (uint8_t)(value >> 8);
 }
 
-/* The refusals that no sample decides, in their order; 0 if there is none. */
-static int64_t check_lengths(int is_offered, size_t src_len, size_t pixel, size_t dst_len,
+/* The refusals that no sample decides, in their order; 0 if there is none. `sample` is the length of the
+ * source's samples. */
+static int64_t check_lengths(int is_offered, size_t src_len, size_t sample, size_t dst_len,
                              size_t needed)
 {
     if (!is_offered)
         return NOT_OFFERED;
-    if (src_len % pixel != 0)
-        return NOT_WHOLE;
+    if (src_len % sample != 0)
+        return NOT_WHOLE_SAMPLES;
+    if (src_len % (3 * sample) != 0)
+        return NOT_WHOLE_PIXELS;
     return dst_len != needed ? WRONG_ROOM : 0;
 }
 
@@ -73,7 +83,7 @@ int64_t plain_from_srgb(uint32_t depth, const uint8_t *src, size_t src_len, uint
                         size_t dst_len, size_t *place)
 {
     (void)place;
-    int64_t fault = check_lengths(offered(depth), src_len, 3, dst_len, 2 * src_len);
+    int64_t fault = check_lengths(offered(depth), src_len, 1, dst_len, 2 * src_len);
     if (fault < 0)
         return fault;
     uint32_t step = 1u << (depth - 9), offset = (1u << (depth - 2)) + (1u << (depth - 3));
@@ -85,7 +95,7 @@ int64_t plain_from_srgb(uint32_t depth, const uint8_t *src, size_t src_len, uint
 int64_t plain_to_srgb(uint32_t depth, const uint8_t *src, size_t src_len, uint8_t *dst,
                       size_t dst_len, size_t *place)
 {
-    int64_t fault = check_lengths(offered(depth), src_len, 6, dst_len, src_len / 2);
+    int64_t fault = check_lengths(offered(depth), src_len, 2, dst_len, src_len / 2);
     if (fault == 0)
         fault = check_codes(depth, src, dst_len, place);
     if (fault < 0)
@@ -103,7 +113,7 @@ int64_t plain_to_srgb(uint32_t depth, const uint8_t *src, size_t src_len, uint8_
 int64_t plain_change_depth(uint32_t from, uint32_t to, const uint8_t *src, size_t src_len,
                            uint8_t *dst, size_t dst_len, size_t *place)
 {
-    int64_t fault = check_lengths(offered(from) && offered(to), src_len, 6, dst_len, src_len);
+    int64_t fault = check_lengths(offered(from) && offered(to), src_len, 2, dst_len, src_len);
     if (fault == 0)
         fault = check_codes(from, src, src_len / 2, place);
     if (fault < 0)
@@ -128,7 +138,7 @@ static int32_t nearest_low(int32_t num, int32_t den)
 int64_t plain_to_luma_chroma(uint32_t depth, const uint8_t *src, size_t src_len, uint8_t *dst,
                              size_t dst_len, size_t *place)
 {
-    int64_t fault = check_lengths(offered(depth), src_len, 6, dst_len, src_len);
+    int64_t fault = check_lengths(offered(depth), src_len, 2, dst_len, src_len);
     if (fault == 0)
         fault = check_codes(depth, src, src_len / 2, place);
     if (fault < 0)
@@ -154,7 +164,7 @@ static uint32_t code_of(int64_t num, int64_t den, uint32_t greatest)
 int64_t plain_from_luma_chroma(uint32_t depth, const uint8_t *src, size_t src_len, uint8_t *dst,
                                size_t dst_len, size_t *place)
 {
-    int64_t fault = check_lengths(offered(depth), src_len, 6, dst_len, src_len);
+    int64_t fault = check_lengths(offered(depth), src_len, 2, dst_len, src_len);
     if (fault == 0)
         fault = check_ycc(depth, src, src_len / 2, place);
     if (fault < 0)
@@ -188,7 +198,7 @@ void plain_set_tables(const uint32_t *light, const uint32_t *ten, const uint32_t
 int64_t plain_code_to_light(uint32_t depth, const uint8_t *src, size_t src_len, int32_t *dst,
                             size_t dst_len, size_t *place)
 {
-    int64_t fault = check_lengths(offers_light(depth), src_len, 6, dst_len, src_len / 2);
+    int64_t fault = check_lengths(offers_light(depth), src_len, 2, dst_len, src_len / 2);
     if (fault == 0)
         fault = check_codes(depth, src, dst_len, place);
     if (fault < 0)
@@ -203,7 +213,7 @@ int64_t plain_code_to_light(uint32_t depth, const uint8_t *src, size_t src_len, 
 int64_t plain_light_to_code(uint32_t depth, const int32_t *src, size_t src_len, uint8_t *dst,
                             size_t dst_len)
 {
-    int64_t fault = check_lengths(offers_light(depth), src_len, 3, dst_len, 2 * src_len);
+    int64_t fault = check_lengths(offers_light(depth), src_len, 1, dst_len, 2 * src_len);
     if (fault < 0)
         return fault;
     const uint32_t *thresholds = depth == 10 ? thresholds10 : thresholds12;

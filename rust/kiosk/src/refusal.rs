@@ -15,17 +15,18 @@ pub enum Fault {
     WrongSize,
     PixelsOutside,
     DepthNotOffered,
-    NotWholePixels,
+    NotWholeSamples,
     WrongDestinationLength,
     SampleTooGreat,
     ChromaZero,
     TotalTooLong,
     InputTooLong,
+    NotWholePixels,
 }
 
 impl Fault {
     /// All faults, each at its number less one.
-    pub const ALL: [Fault; 15] = [
+    pub const ALL: [Fault; 16] = [
         Fault::TooShort,
         Fault::WrongFileLength,
         Fault::TooManyFrames,
@@ -35,12 +36,13 @@ impl Fault {
         Fault::WrongSize,
         Fault::PixelsOutside,
         Fault::DepthNotOffered,
-        Fault::NotWholePixels,
+        Fault::NotWholeSamples,
         Fault::WrongDestinationLength,
         Fault::SampleTooGreat,
         Fault::ChromaZero,
         Fault::TotalTooLong,
         Fault::InputTooLong,
+        Fault::NotWholePixels,
     ];
 
     /// The number of the refusal.
@@ -64,12 +66,13 @@ impl Fault {
             Fault::WrongSize => "the width or height is 0 or above 8,192",
             Fault::PixelsOutside => "the pixels are not inside the file behind the header",
             Fault::DepthNotOffered => "this depth is not offered",
-            Fault::NotWholePixels => "the source is not a whole number of pixels",
+            Fault::NotWholeSamples => "the source is not whole samples: two bytes make one",
             Fault::WrongDestinationLength => "the destination has not exactly the length needed",
             Fault::SampleTooGreat => "a sample is above the greatest of its depth",
             Fault::ChromaZero => "a chroma sample has code 0",
             Fault::TotalTooLong => "the spool would be longer than 4,294,967,295 bytes",
             Fault::InputTooLong => "a listing takes at most 65,536 bytes",
+            Fault::NotWholePixels => "the source is not whole pixels: three samples make one",
         }
     }
 }
@@ -126,13 +129,18 @@ mod tests {
 
     #[test]
     fn words_with_the_number() {
-        let refusal = Refusal {
-            fault: Fault::SampleTooGreat,
-            place: Some(8),
-        };
+        let words = |fault, place| Refusal { fault, place }.to_string();
         assert_eq!(
-            refusal.to_string(),
+            words(Fault::SampleTooGreat, Some(8)),
             "refusal 12: a sample is above the greatest of its depth (byte 8)"
+        );
+        assert_eq!(
+            words(Fault::NotWholeSamples, None),
+            "refusal 10: the source is not whole samples: two bytes make one"
+        );
+        assert_eq!(
+            words(Fault::NotWholePixels, None),
+            "refusal 16: the source is not whole pixels: three samples make one"
         );
     }
 }

@@ -60,6 +60,12 @@ static void pictures(void)
     memcpy(back, codes, sizeof codes);
     CHECK(kiosk_from_srgb(11, srgb, sizeof srgb, back, sizeof back, &place) == -KIOSK_DEPTH_NOT_OFFERED);
     CHECK(kiosk_from_srgb(10, srgb, 5, back, sizeof back, &place) == -KIOSK_NOT_WHOLE_PIXELS);
+    CHECK(kiosk_to_srgb(10, codes, 11, eight, sizeof eight, &place) == -KIOSK_NOT_WHOLE_SAMPLES);
+    CHECK(kiosk_to_srgb(10, codes, 10, eight, sizeof eight, &place) == -KIOSK_NOT_WHOLE_PIXELS);
+    CHECK(kiosk_to_srgb(10, codes, 9, eight, 1, &place) == -KIOSK_NOT_WHOLE_SAMPLES);
+    CHECK(kiosk_to_srgb(10, codes, 8, eight, 1, &place) == -KIOSK_NOT_WHOLE_PIXELS);
+    CHECK(kiosk_to_srgb(11, codes, 9, eight, 1, &place) == -KIOSK_DEPTH_NOT_OFFERED);
+    CHECK(memcmp(eight, srgb, sizeof srgb) == 0);
     CHECK(kiosk_from_srgb(10, srgb, sizeof srgb, back, 11, &place) == -KIOSK_WRONG_DESTINATION_LENGTH);
     CHECK(place == 77);
     put_code(codes, 4, 1024);
@@ -149,6 +155,10 @@ static void light(void)
     CHECK(code_at(again, 0) == 1618 && code_at(again, 1) == 1619);
     CHECK(code_at(again, 2) == 0 && code_at(again, 3) == 4095);
     CHECK(kiosk_code_to_light(16, codes, sizeof codes, numbers, 6, &place) == -KIOSK_DEPTH_NOT_OFFERED);
+    CHECK(kiosk_code_to_light(12, codes, 11, numbers, 6, &place) == -KIOSK_NOT_WHOLE_SAMPLES);
+    CHECK(kiosk_code_to_light(12, codes, 10, numbers, 5, &place) == -KIOSK_NOT_WHOLE_PIXELS);
+    CHECK(kiosk_light_to_code(12, numbers, 5, again, 10) == -KIOSK_NOT_WHOLE_PIXELS);
+    CHECK(kiosk_light_to_code(12, numbers, 4, again, 8) == -KIOSK_NOT_WHOLE_PIXELS);
     CHECK(kiosk_light_to_code(12, numbers, 6, again, 11) == -KIOSK_WRONG_DESTINATION_LENGTH);
     CHECK(place == 77);
     put_code(codes, 5, 4096);

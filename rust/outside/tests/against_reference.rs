@@ -11,7 +11,7 @@ use std::time::Instant;
 /// A part of the tests: what it compares, and the function that gives how many.
 type Part = (&'static str, fn() -> u64);
 
-const PARTS: [Part; 10] = [
+const PARTS: [Part; 12] = [
     (
         "samples: every code of every depth",
         parts::pictures::every_sample,
@@ -25,6 +25,10 @@ const PARTS: [Part; 10] = [
         parts::pictures::pixels_with_edges,
     ),
     (
+        "calls of Convert: every length from 0 to 40 bytes",
+        parts::pictures::every_length,
+    ),
+    (
         "calls of Convert with faults and wrong lengths",
         parts::pictures::refusals,
     ),
@@ -36,6 +40,10 @@ const PARTS: [Part; 10] = [
     (
         "light to codes: every light from -2,100,000 to 2,100,000",
         parts::light::every_light,
+    ),
+    (
+        "calls of light: every length from 0 to 40",
+        parts::light::every_length,
     ),
     (
         "calls of light with faults and wrong lengths",

@@ -126,8 +126,11 @@ fn count_pixels(offered: bool, source: Extent, destination: Extent) -> Result<us
     if !offered {
         return Err(Refusal::plain(9));
     }
-    if !source.length.is_multiple_of(3 * source.sample) {
+    if !source.length.is_multiple_of(source.sample) {
         return Err(Refusal::plain(10));
+    }
+    if !source.length.is_multiple_of(3 * source.sample) {
+        return Err(Refusal::plain(16));
     }
     let pixels = source.length / (3 * source.sample);
     if destination.length != pixels * 3 * destination.sample {

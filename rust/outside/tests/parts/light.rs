@@ -2,6 +2,7 @@
 
 use outside::{guarded, said, Random};
 use reference::{buffers, light, samples};
+use std::collections::BTreeSet;
 
 const DEPTHS: [u32; 2] = [10, 12];
 
@@ -71,6 +72,58 @@ pub fn every_light() -> u64 {
     count
 }
 
+/// A call of codes to light by the library and by the reference, over a destination that held `before`: the answer and
+/// every number. Gives the number of the refusal, if it is refused.
+fn compare_to_light(depth: u32, src: &[u8], before: &[i32]) -> Option<u8> {
+    let (answer, after) = guarded(before, -1, |dst| kiosk::code_to_light(depth, src, dst));
+    let mut expected = before.to_vec();
+    let expected_answer = buffers::code_to_light(depth, src, &mut expected);
+    assert_eq!(
+        (said(answer), after),
+        (expected_answer, expected),
+        "{src:?} at {depth} bits to {} numbers of light",
+        before.len()
+    );
+    expected_answer.err().map(|refusal| refusal.number)
+}
+
+/// The same of light to codes.
+fn compare_to_code(depth: u32, lights: &[i32], before: &[u8]) -> Option<u8> {
+    let (answer, after) = guarded(before, 0xa5, |dst| kiosk::light_to_code(depth, lights, dst));
+    let mut expected = before.to_vec();
+    let expected_answer = buffers::light_to_code(depth, lights, &mut expected);
+    assert_eq!(
+        (said(answer), after),
+        (expected_answer, expected),
+        "{lights:?} at {depth} bits to {} bytes of codes",
+        before.len()
+    );
+    expected_answer.err().map(|refusal| refusal.number)
+}
+
+/// Codes of 0 to 40 bytes to light, and 0 to 40 numbers of light to codes, into destinations of every length up to what
+/// the longest needs. The codes are sound, or above what there is. Light never gets 10.
+pub fn every_length() -> u64 {
+    let mut count = 0;
+    let (mut of_codes, mut of_light) = (BTreeSet::new(), BTreeSet::new());
+    for (depth, len) in DEPTHS
+        .into_iter()
+        .flat_map(|n| (0..=40).map(move |len| (n, len)))
+    {
+        for (fill, room) in (0..=20).flat_map(|room| [(1, room), (255, room)]) {
+            of_codes.extend(compare_to_light(depth, &vec![fill; len], &vec![7; room]));
+            count += 1;
+        }
+        for room in 0..=80 {
+            of_light.extend(compare_to_code(depth, &vec![-1; len], &vec![0x5a; room]));
+            count += 1;
+        }
+    }
+    assert_eq!(of_codes, BTreeSet::from([10, 11, 12, 16]));
+    assert_eq!(of_light, BTreeSet::from([11, 16]));
+    count
+}
+
 /// Short buffers of any length and depth, with faults, both ways.
 pub fn refusals() -> u64 {
     let mut random = Random::new(4);
@@ -89,14 +142,7 @@ pub fn refusals() -> u64 {
             _ => src.len() / 2,
         };
         let before: Vec<i32> = (0..room).map(|_| random.number() as i32).collect();
-        let (answer, after) = guarded(&before, -1, |dst| kiosk::code_to_light(depth, &src, dst));
-        let mut expected = before.clone();
-        let expected_answer = buffers::code_to_light(depth, &src, &mut expected);
-        assert_eq!(
-            (said(answer), after),
-            (expected_answer, expected),
-            "{src:?} at {depth} bits to {room} numbers of light"
-        );
+        compare_to_light(depth, &src, &before);
 
         let lights: Vec<i32> = (0..random.below(13))
             .map(|_| random.number() as i32 >> random.below(32))
@@ -105,17 +151,7 @@ pub fn refusals() -> u64 {
             0 => random.below(30) as usize,
             _ => 2 * lights.len(),
         };
-        let before = random.bytes(room);
-        let (answer, after) = guarded(&before, 0xa5, |dst| {
-            kiosk::light_to_code(depth, &lights, dst)
-        });
-        let mut expected = before.clone();
-        let expected_answer = buffers::light_to_code(depth, &lights, &mut expected);
-        assert_eq!(
-            (said(answer), after),
-            (expected_answer, expected),
-            "{lights:?} at {depth} bits to {room} bytes of codes"
-        );
+        compare_to_code(depth, &lights, &random.bytes(room));
         count += 2;
     }
     count

@@ -202,6 +202,23 @@ const ANY_DEPTH: [u32; 15] = [
     u32::MAX,
 ];
 
+/// A call of Convert by the library and by the reference, over a destination that held `before`: the answer and every
+/// byte. Gives the number of the refusal, if it is refused.
+fn compare_call(conversion: Conversion, src: &[u8], before: &[u8]) -> Option<u8> {
+    let (answer, after) = guarded(before, 0xa5, |dst| {
+        kiosk::convert(of_library(conversion), src, dst)
+    });
+    let mut expected = before.to_vec();
+    let expected_answer = convert(conversion, src, &mut expected);
+    assert_eq!(
+        (said(answer), after),
+        (expected_answer, expected),
+        "{conversion:?} of {src:?} into {} bytes",
+        before.len()
+    );
+    expected_answer.err().map(|refusal| refusal.number)
+}
+
 /// Short buffers of any length and depth, with faults: answers, places and every byte against the reference.
 pub fn refusals() -> u64 {
     let mut random = Random::new(2);
@@ -246,18 +263,45 @@ pub fn refusals() -> u64 {
             1 => needed + 1,
             _ => needed,
         };
-        let before = random.bytes(room);
-        let (answer, after) = guarded(&before, 0xa5, |dst| {
-            kiosk::convert(of_library(conversion), &src, dst)
-        });
-        let mut expected = before.clone();
-        let expected_answer = convert(conversion, &src, &mut expected);
-        assert_eq!(
-            (said(answer), after),
-            (expected_answer, expected),
-            "{conversion:?} of {src:?} into {room} bytes"
-        );
+        compare_call(conversion, &src, &random.bytes(room));
         count += 1;
+    }
+    count
+}
+
+/// Every conversion at every depth offered, from sources of 0 to 40 bytes into destinations of every length up to what
+/// the longest needs: answers and every byte against the reference. The source's samples are sound, or above what 10
+/// and 12 bits have, so that lengths are seen to be looked at first. Bytes of sRGB never get 10.
+pub fn every_length() -> u64 {
+    let mut count = 0;
+    let mut check = |conversion: Conversion| {
+        let mut refused = BTreeSet::new();
+        for (len, fill) in (0..=40).flat_map(|len| [(len, 1), (len, 255)]) {
+            for room in 0..=80 {
+                refused.extend(compare_call(
+                    conversion,
+                    &vec![fill; len],
+                    &vec![0x5a; room],
+                ));
+                count += 1;
+            }
+        }
+        let mut numbers = vec![11, 16];
+        match conversion.source() {
+            Form::Srgb => {}
+            Form::Esrgb(16) | Form::LumaChroma(16) => numbers.push(10),
+            Form::Esrgb(_) | Form::LumaChroma(_) => numbers.extend([10, 12]),
+        }
+        assert_eq!(refused, BTreeSet::from_iter(numbers), "{conversion:?}");
+    };
+    for depth in DEPTHS {
+        check(Conversion::FromSrgb(depth));
+        check(Conversion::ToSrgb(depth));
+        check(Conversion::ToLumaChroma(depth));
+        check(Conversion::FromLumaChroma(depth));
+        for to in DEPTHS {
+            check(Conversion::ChangeDepth(depth, to));
+        }
     }
     count
 }

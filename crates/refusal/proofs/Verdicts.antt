@@ -2,7 +2,7 @@
 -- Assumes nothing.
 use Prim.Native.Nat.{ℕ, _<_}
 use native.Mathlib.Omega.{arith}
-use mathlib.Core.Path.{_≡_, refl}
+use mathlib.Core.Path.{_≡_, refl, sym}
 use mathlib.Core.Bool.{Bool, true, false, cond}
 use Rattle.refusal.specs.Answers.{Verdict, sound, faulty, orElse, Said, accepted, refused, refusedAt, refusesOr}
 
@@ -16,7 +16,7 @@ passed false n v e = (refl, e)
 
 -- A number that no test of a row has is never its verdict.
 pub sound-other : (k : ℕ) → sound ≡ faulty k → ⊥
-sound-other k e = let z : _≡_ {A = ℕ} 0 1 = cc in omega arith
+sound-other k e = faulty-sound k (sym e)
 
 pub test-other : (b : Bool) (n k : ℕ) (v : Verdict) → (n ≡ k → ⊥) → (v ≡ faulty k → ⊥) → cond b (faulty n) v ≡ faulty k → ⊥
 test-other true n k v other never e = other cc
@@ -60,7 +60,7 @@ or-other sound k rest never other h = other h
 or-other (faulty n) k rest never other h = never cc
 
 -- A refusal stands, whatever the rest is.
-pub or-refused :
+pub or-stands :
     (v : Verdict) (n : ℕ) (rest s : Said) → ((m : ℕ) → s ≡ accepted m → ⊥) → s ≡ refusesOr v (accepted n) → s ≡ refusesOr v rest
-or-refused sound n rest s never h = absurd (never n h)
-or-refused (faulty k) n rest s never h = h
+or-stands sound n rest s never h = absurd (never n h)
+or-stands (faulty k) n rest s never h = h

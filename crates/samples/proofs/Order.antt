@@ -9,7 +9,7 @@ use borrow.Author.Tests.{eq-eqb, ne-eqb, eqb-true, not-false}
 use lib.Dec.{eqb}
 use lib.ListN.{length}
 use Rattle.refusal.specs.Answers.{sound, Said, accepted, refused}
-use Rattle.refusal.proofs.Verdicts.{passed, sound-other, test-other, or-accepted, or-other, or-refused}
+use Rattle.refusal.proofs.Verdicts.{passed, sound-other, test-other, or-accepted, or-other, or-stands}
 use Rattle.samples.specs.declared.Coding.{Coding}
 use Rattle.samples.specs.declared.Coding.the-variants.{Bytes, Codes}
 use Rattle.samples.specs.Samples.{sampleSize, pixelSize, twoByTwo, samplesOf}
@@ -24,7 +24,7 @@ pub some-size : (wide : Bool) → 3 ≤ pixelSize wide
 some-size true = omega arith
 some-size false = omega arith
 
--- Whole pixels are whole samples, and so is every source whose samples take one byte or number each.
+-- Whole pixels are whole samples.
 samples-whole : (wide : Bool) (len : ℕ) → len % pixelSize wide ≡ 0 → len % sampleSize wide ≡ 0
 samples-whole true len h = omega arith
 samples-whole false len h = omega arith
@@ -107,7 +107,7 @@ module _ (wideOut : Bool) (src : List ℕ) (room : ℕ) where
         ((n : ℕ) → s ≡ accepted n → ⊥) → s ≡ inOrder true true wideOut (length src) room (accepted (length src / 6))
         → s ≡ sourceSays true (Codes greatest chroma) wideOut src room
     unfolding sourceSays
-    codes-refused never h = or-refused (callFault true true wideOut (length src) room) (length src / 6) _ s never h
+    codes-refused never h = or-stands (callFault true true wideOut (length src) room) (length src / 6) _ s never h
 
 -- What an accepted source is.
 pub source-exact :

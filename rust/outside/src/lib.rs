@@ -5,6 +5,7 @@
 
 use reference::buffers::Conversion;
 use reference::spool::Record;
+use std::fmt::Debug;
 
 /// SplitMix64: the same numbers at every run.
 pub struct Random(u64);
@@ -82,6 +83,29 @@ pub fn guarded<T: Copy + PartialEq, R>(
 ) -> (R, Vec<T>) {
     let (given, [after]) = all_guarded([before], guard, |[dst]| fill(dst));
     (given, after)
+}
+
+/// A call by the library and by the reference, over destinations that held the same: answers and every byte or number
+/// are compared. `what` names the call if they differ. Gives the number of the refusal, if it is refused, and the
+/// destination after it.
+pub fn by_both<T: Copy + PartialEq + Debug>(
+    before: &[T],
+    guard: T,
+    library: impl FnOnce(&mut [T]) -> Result<usize, kiosk::Refusal>,
+    reference: impl FnOnce(&mut [T]) -> Result<usize, reference::Refusal>,
+    what: impl FnOnce() -> String,
+) -> (Option<u8>, Vec<T>) {
+    let (answer, after) = guarded(before, guard, library);
+    let mut expected = before.to_vec();
+    let expected_answer = reference(&mut expected);
+    assert_eq!(
+        (said(answer), &after),
+        (expected_answer, &expected),
+        "{} into a length of {}",
+        what(),
+        before.len()
+    );
+    (expected_answer.err().map(|refusal| refusal.number), after)
 }
 
 /// The library's conversion of the reference's.

@@ -1,6 +1,6 @@
 //! Linear light.
 
-use outside::{guarded, said, Random};
+use outside::{by_both, guarded, Random};
 use reference::{buffers, light, samples};
 use std::collections::BTreeSet;
 
@@ -72,33 +72,29 @@ pub fn every_light() -> u64 {
     count
 }
 
-/// A call of codes to light by the library and by the reference, over a destination that held `before`: the answer and
-/// every number. Gives the number of the refusal, if it is refused.
-fn compare_to_light(depth: u32, src: &[u8], before: &[i32]) -> Option<u8> {
-    let (answer, after) = guarded(before, -1, |dst| kiosk::code_to_light(depth, src, dst));
-    let mut expected = before.to_vec();
-    let expected_answer = buffers::code_to_light(depth, src, &mut expected);
-    assert_eq!(
-        (said(answer), after),
-        (expected_answer, expected),
-        "{src:?} at {depth} bits to {} numbers of light",
-        before.len()
-    );
-    expected_answer.err().map(|refusal| refusal.number)
+/// A call of codes to light by both, over a destination that held `before`. Gives the number of the refusal, if it is
+/// refused.
+fn to_light_by_both(depth: u32, src: &[u8], before: &[i32]) -> Option<u8> {
+    by_both(
+        before,
+        -1,
+        |dst| kiosk::code_to_light(depth, src, dst),
+        |dst| buffers::code_to_light(depth, src, dst),
+        || format!("codes {src:?} of {depth} bits"),
+    )
+    .0
 }
 
 /// The same of light to codes.
-fn compare_to_code(depth: u32, lights: &[i32], before: &[u8]) -> Option<u8> {
-    let (answer, after) = guarded(before, 0xa5, |dst| kiosk::light_to_code(depth, lights, dst));
-    let mut expected = before.to_vec();
-    let expected_answer = buffers::light_to_code(depth, lights, &mut expected);
-    assert_eq!(
-        (said(answer), after),
-        (expected_answer, expected),
-        "{lights:?} at {depth} bits to {} bytes of codes",
-        before.len()
-    );
-    expected_answer.err().map(|refusal| refusal.number)
+fn to_code_by_both(depth: u32, lights: &[i32], before: &[u8]) -> Option<u8> {
+    by_both(
+        before,
+        0xa5,
+        |dst| kiosk::light_to_code(depth, lights, dst),
+        |dst| buffers::light_to_code(depth, lights, dst),
+        || format!("light {lights:?} at {depth} bits"),
+    )
+    .0
 }
 
 /// Codes of 0 to 40 bytes to light, and 0 to 40 numbers of light to codes, into destinations of every length up to what
@@ -111,11 +107,11 @@ pub fn every_length() -> u64 {
         .flat_map(|n| (0..=40).map(move |len| (n, len)))
     {
         for (fill, room) in (0..=20).flat_map(|room| [(1, room), (255, room)]) {
-            of_codes.extend(compare_to_light(depth, &vec![fill; len], &vec![7; room]));
+            of_codes.extend(to_light_by_both(depth, &vec![fill; len], &vec![7; room]));
             count += 1;
         }
         for room in 0..=80 {
-            of_light.extend(compare_to_code(depth, &vec![-1; len], &vec![0x5a; room]));
+            of_light.extend(to_code_by_both(depth, &vec![-1; len], &vec![0x5a; room]));
             count += 1;
         }
     }
@@ -142,7 +138,7 @@ pub fn refusals() -> u64 {
             _ => src.len() / 2,
         };
         let before: Vec<i32> = (0..room).map(|_| random.number() as i32).collect();
-        compare_to_light(depth, &src, &before);
+        to_light_by_both(depth, &src, &before);
 
         let lights: Vec<i32> = (0..random.below(13))
             .map(|_| random.number() as i32 >> random.below(32))
@@ -151,7 +147,7 @@ pub fn refusals() -> u64 {
             0 => random.below(30) as usize,
             _ => 2 * lights.len(),
         };
-        compare_to_code(depth, &lights, &random.bytes(room));
+        to_code_by_both(depth, &lights, &random.bytes(room));
         count += 2;
     }
     count

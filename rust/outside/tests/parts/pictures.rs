@@ -1,6 +1,6 @@
 //! Convert.
 
-use outside::{all_guarded, guarded, of_library, said, Random};
+use outside::{all_guarded, by_both, guarded, of_library, said, Random};
 use reference::buffers::{convert, Conversion, Form};
 use reference::samples;
 use std::collections::BTreeSet;
@@ -202,21 +202,16 @@ const ANY_DEPTH: [u32; 15] = [
     u32::MAX,
 ];
 
-/// A call of Convert by the library and by the reference, over a destination that held `before`: the answer and every
-/// byte. Gives the number of the refusal, if it is refused.
-fn compare_call(conversion: Conversion, src: &[u8], before: &[u8]) -> Option<u8> {
-    let (answer, after) = guarded(before, 0xa5, |dst| {
-        kiosk::convert(of_library(conversion), src, dst)
-    });
-    let mut expected = before.to_vec();
-    let expected_answer = convert(conversion, src, &mut expected);
-    assert_eq!(
-        (said(answer), after),
-        (expected_answer, expected),
-        "{conversion:?} of {src:?} into {} bytes",
-        before.len()
-    );
-    expected_answer.err().map(|refusal| refusal.number)
+/// A call of Convert by both, over a destination that held `before`. Gives the number of the refusal, if it is refused.
+fn convert_by_both(conversion: Conversion, src: &[u8], before: &[u8]) -> Option<u8> {
+    by_both(
+        before,
+        0xa5,
+        |dst| kiosk::convert(of_library(conversion), src, dst),
+        |dst| convert(conversion, src, dst),
+        || format!("{conversion:?} of {src:?}"),
+    )
+    .0
 }
 
 /// Short buffers of any length and depth, with faults: answers, places and every byte against the reference.
@@ -263,7 +258,7 @@ pub fn refusals() -> u64 {
             1 => needed + 1,
             _ => needed,
         };
-        compare_call(conversion, &src, &random.bytes(room));
+        convert_by_both(conversion, &src, &random.bytes(room));
         count += 1;
     }
     count
@@ -278,7 +273,7 @@ pub fn every_length() -> u64 {
         let mut refused = BTreeSet::new();
         for (len, fill) in (0..=40).flat_map(|len| [(len, 1), (len, 255)]) {
             for room in 0..=80 {
-                refused.extend(compare_call(
+                refused.extend(convert_by_both(
                     conversion,
                     &vec![fill; len],
                     &vec![0x5a; room],

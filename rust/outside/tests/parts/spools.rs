@@ -1,6 +1,6 @@
 //! Spool files.
 
-use outside::{guarded, said, sound_record, Random};
+use outside::{by_both, said, sound_record, Random};
 use reference::spool::{self, Contents, Record};
 
 fn of_library(record: &Record) -> kiosk::Record {
@@ -99,16 +99,14 @@ fn spool_of(records: &[Record], shop: u16, random: &mut Random) -> Vec<u8> {
 /// Lays out by both, between guard bytes, and compares answer and bytes. Gives the destination after it.
 fn lay_out(records: &[Record], shop: u16, before: &[u8]) -> Vec<u8> {
     let lent: Vec<kiosk::Record> = records.iter().map(of_library).collect();
-    let (answer, after) = guarded(before, 0xa5, |dst| kiosk::lay_out(&lent, shop, dst));
-    let mut expected = before.to_vec();
-    let expected_answer = spool::lay_out(records, shop, &mut expected);
-    assert_eq!(
-        (said(answer), &after),
-        (expected_answer, &expected),
-        "lay out {records:?} in {} bytes",
-        before.len()
-    );
-    after
+    by_both(
+        before,
+        0xa5,
+        |dst| kiosk::lay_out(&lent, shop, dst),
+        |dst| spool::lay_out(records, shop, dst),
+        || format!("lay out {records:?}"),
+    )
+    .1
 }
 
 /// Spools laid out and compared whole; with every byte of header and table damaged; cut at every length; and

@@ -49,7 +49,7 @@ enum kiosk_refusal {
     KIOSK_WRONG_SIZE = 7,                /* a width or height of 0 or above 8,192 */
     KIOSK_PIXELS_OUTSIDE = 8,            /* the pixels are not inside the file behind the header */
     KIOSK_DEPTH_NOT_OFFERED = 9,         /* a depth that is not offered */
-    KIOSK_NOT_WHOLE_SAMPLES = 10,        /* the source is not whole samples: an odd length, two bytes each */
+    KIOSK_NOT_WHOLE_SAMPLES = 10,        /* the source is not whole samples: an odd number of bytes */
     KIOSK_WRONG_DESTINATION_LENGTH = 11, /* the destination has not exactly the length needed */
     KIOSK_SAMPLE_TOO_GREAT = 12,         /* a sample above the greatest of its depth; place: its byte offset */
     KIOSK_CHROMA_ZERO = 13,              /* a chroma of code 0; place: its byte offset */

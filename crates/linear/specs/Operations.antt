@@ -20,7 +20,7 @@ use Rattle.linear.specs.declared.CodeFound.{CodeFound}
 use Rattle.linear.specs.declared.CodeFound.the-variants as code-found
 use Rattle.linear.specs.declared.CodeFound.the-variants.{Code}
 
--- Codes to light refuse as Convert does, in its order. The source is bytes, two to a sample, and the destination has `room`
+-- Codes to light refuses as Convert does, in its order. The source is bytes, two to a sample, and the destination has `room`
 -- numbers, one to a sample.
 abbrev pub codesToLightSays : ℕ → List ℕ → ℕ → Said
 codesToLightSays n src room = sourceSays (offersLight n) (Codes (greatest n) false) false src room
@@ -29,7 +29,7 @@ codesToLightSays n src room = sourceSays (offersLight n) (Codes (greatest n) fal
 abbrev pub codesToLight : ℕ → List ℕ → List ℤ
 codesToLight n src = map (lightOfCode n) (twoByTwo src)
 
--- Light to codes do too, and no number is at fault. The source is so many numbers, one to a sample, and the destination has `room`
+-- Light to codes does too, and no number is at fault. The source is so many numbers, one to a sample, and the destination has `room`
 -- bytes, two to a sample.
 abbrev pub lightToCodesSays : ℕ → ℕ → ℕ → Said
 lightToCodesSays n numbers room = inOrder (offersLight n) false true numbers room (accepted (numbers / 3))

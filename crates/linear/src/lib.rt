@@ -31,9 +31,8 @@ ghost use Rattle.transfer.specs.Level.{levelOfLight, codeOfLight};
 ghost use Rattle.transfer.specs.HowTabled.{levels, startOf, LightTable, ThresholdTable, StartTable};
 ghost use Rattle.linear.specs.Operations.{codesToLightSays, codesToLight, lightToCodesSays, lightToCodes, lightSays, lightSaid, codeSays, codeSaid};
 
-// Codes to light: each two-byte sample becomes a number. Refused are, in Convert's order: a depth other
-// than 10 and 12, a source that is not whole samples or not whole pixels, a destination that does not have
-// one number for each sample, and a code above the greatest.
+// Codes to light: each two-byte sample becomes a number. It refuses as Convert does, and a depth other
+// than 10 and 12 is not offered.
 pub fn code_to_light(depth: u32, src: &[u8], dst: &mut [i32]) -> Answer
     ensures answer { λ r. ⌜ said r ≡ codesToLightSays depth (now (src .entry)) (length (now (dst .entry))) ⌝ }
     ensures numbers { λ r. ⌜ now (dst .exit) ≡ leaves (codesToLightSays depth (now (src .entry)) (length (now (dst .entry)))) (codesToLight depth (now (src .entry))) (now (dst .entry)) ⌝ }
@@ -109,9 +108,8 @@ fn with_sign(negative: bool, magnitude: u32) -> i32
     if negative { -value } else { value }
 }
 
-// Light to codes: each number becomes two bytes. Refused are, in Convert's order: a depth other than 10
-// and 12, a source that is not whole pixels, and a destination that does not have two bytes for each
-// number. No number is refused: codes are clipped.
+// Light to codes: each number becomes two bytes. It refuses as Convert does, and a depth other than 10 and
+// 12 is not offered. No number is at fault: codes are clipped.
 pub fn light_to_code(depth: u32, src: &[i32], dst: &mut [u8]) -> Answer
     ensures answer { λ r. ⌜ said r ≡ lightToCodesSays depth (length (now (src .entry))) (length (now (dst .entry))) ⌝ }
     ensures bytes { λ r. ⌜ now (dst .exit) ≡ leaves (lightToCodesSays depth (length (now (src .entry))) (length (now (dst .entry)))) (lightToCodes depth (now (src .entry))) (now (dst .entry)) ⌝ }

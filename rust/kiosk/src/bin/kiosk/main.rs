@@ -9,6 +9,7 @@ mod png;
 
 use form::{Form, Target};
 use kiosk::{Fault, Frame, Refusal};
+use std::collections::BTreeMap;
 use std::ffi::{OsStr, OsString};
 use std::fs::File;
 use std::io::{self, Read, Write};
@@ -49,6 +50,10 @@ enum Failure {
 }
 
 impl Failure {
+    fn usage(message: impl Into<String>) -> Self {
+        Failure::Usage(message.into())
+    }
+
     fn about(subject: &Path, cause: impl std::fmt::Display) -> Self {
         Failure::Failed(format!("{}: {cause}", subject.display()))
     }
@@ -69,98 +74,93 @@ fn main() -> ExitCode {
     }
 }
 
+/// The options, and whether each has a value.
+const OPTIONS: [(&str, bool); 3] = [("--to", true), ("--out", true), ("--raw", false)];
+
 /// A command's words, sorted.
-#[derive(Default)]
 struct Words<'a> {
     plain: Vec<&'a OsStr>,
-    to: Option<&'a OsStr>,
-    out: Option<&'a OsStr>,
-    raw: bool,
+    /// The options by name; one without a value is its own.
+    options: BTreeMap<&'static str, &'a OsStr>,
 }
 
-fn sorted(words: &[OsString]) -> Result<Words<'_>, Failure> {
-    let mut sorted = Words::default();
-    let mut rest = words.iter();
-    while let Some(word) = rest.next() {
-        let mut value = || {
-            rest.next()
-                .map(OsString::as_os_str)
-                .ok_or_else(|| Failure::Usage(format!("{} wants a value", word.display())))
-        };
-        match word.to_str() {
-            Some("--to") => sorted.to = Some(value()?),
-            Some("--out") => sorted.out = Some(value()?),
-            Some("--raw") => sorted.raw = true,
-            Some(option) if option.starts_with("--") => {
-                return Err(Failure::Usage(format!("unknown option {option}")));
+impl<'a> Words<'a> {
+    fn sorted(words: &'a [OsString]) -> Result<Self, Failure> {
+        let mut plain = Vec::new();
+        let mut options = BTreeMap::new();
+        let mut rest = words.iter();
+        while let Some(word) = rest.next() {
+            if !word.as_encoded_bytes().starts_with(b"--") {
+                plain.push(word.as_os_str());
+                continue;
             }
-            _ => sorted.plain.push(word),
+            let Some((name, has_value)) = OPTIONS.into_iter().find(|(name, _)| word == name) else {
+                return Err(Failure::usage(format!("unknown option {}", word.display())));
+            };
+            let value = if has_value { rest.next() } else { Some(word) };
+            let value = value.ok_or_else(|| Failure::usage(format!("{name} wants a value")))?;
+            options.insert(name, value.as_os_str());
+        }
+        Ok(Words { plain, options })
+    }
+
+    /// Refuses options that a command does not have.
+    fn only(&self, names: &[&str]) -> Result<(), Failure> {
+        match self.options.keys().find(|name| !names.contains(name)) {
+            Some(name) => Err(Failure::usage(format!("this command has no option {name}"))),
+            None => Ok(()),
         }
     }
-    Ok(sorted)
+
+    fn wanted(&self, name: &str) -> Result<&'a OsStr, Failure> {
+        let value = self.options.get(name).copied();
+        value.ok_or_else(|| Failure::usage(format!("{name} is missing")))
+    }
+
+    fn out(&self) -> Result<&'a Path, Failure> {
+        self.wanted("--out").map(Path::new)
+    }
 }
 
 fn run(words: &[OsString]) -> Result<(), Failure> {
     let Some((command, rest)) = words.split_first() else {
-        return Err(Failure::Usage("no command".to_string()));
+        return Err(Failure::usage("no command"));
     };
     if words.iter().any(|word| word == "--help" || word == "-h") {
         return print(USAGE);
     }
-    let words = sorted(rest)?;
+    let words = Words::sorted(rest)?;
     match (command.to_str(), words.plain.as_slice()) {
         (Some("list"), [file]) => {
-            no_options(&words, false)?;
+            words.only(&[])?;
             list(Path::new(file))
         }
         (Some("compare"), [file, frame]) => {
-            no_options(&words, false)?;
+            words.only(&[])?;
             compare_runs(Path::new(file), number(frame)?)
         }
         (Some("preview"), [file, frame]) => {
-            no_options(&words, true)?;
-            preview(Path::new(file), number(frame)?, &out(&words)?)
+            words.only(&["--out"])?;
+            preview(Path::new(file), number(frame)?, words.out()?)
         }
         (Some("convert"), [file, frame]) => {
-            let name = words
-                .to
-                .ok_or_else(|| Failure::Usage("--to is missing".to_string()))?;
+            words.only(&["--to", "--out", "--raw"])?;
+            let name = words.wanted("--to")?;
             let target = name.to_str().and_then(Target::named).ok_or_else(|| {
-                Failure::Usage(format!("{} is no form of a picture", name.display()))
+                Failure::usage(format!("{} is no form of a picture", name.display()))
             })?;
-            convert(
-                Path::new(file),
-                number(frame)?,
-                target,
-                words.raw,
-                &out(&words)?,
-            )
+            let raw = words.options.contains_key("--raw");
+            convert(Path::new(file), number(frame)?, target, raw, words.out()?)
         }
-        (Some("list" | "compare" | "preview" | "convert"), _) => Err(Failure::Usage(format!(
+        (Some("list" | "compare" | "preview" | "convert"), _) => Err(Failure::usage(format!(
             "{} wants other words",
             command.display()
         ))),
-        _ => Err(Failure::Usage(format!(
+        _ => Err(Failure::usage(format!(
             "unknown command {}",
             command.display()
         ))),
     }
-}
-
-fn no_options(words: &Words, with_out: bool) -> Result<(), Failure> {
-    if words.to.is_some() || words.raw || (words.out.is_some() && !with_out) {
-        return Err(Failure::Usage(
-            "an option that this command does not have".to_string(),
-        ));
-    }
-    Ok(())
-}
-
-fn out(words: &Words) -> Result<PathBuf, Failure> {
-    words
-        .out
-        .map(PathBuf::from)
-        .ok_or_else(|| Failure::Usage("--out is missing".to_string()))
 }
 
 /// A frame number. One that is too great for the machine is no frame's either.
@@ -169,7 +169,7 @@ fn number(word: &OsStr) -> Result<usize, Failure> {
         Some(digits) if !digits.is_empty() && digits.bytes().all(|b| b.is_ascii_digit()) => {
             Ok(digits.parse().unwrap_or(usize::MAX))
         }
-        _ => Err(Failure::Usage(format!(
+        _ => Err(Failure::usage(format!(
             "{} is no frame number",
             word.display()
         ))),

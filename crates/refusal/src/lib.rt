@@ -38,6 +38,8 @@ pub enum Refusal {
     InputTooLong,
     // 16: the source is whole samples, and not whole pixels.
     NotWholePixels,
+    // 17: a tint's channel that is infinite or not a number.
+    NotFinite,
 }
 
 // The number of a refusal.
@@ -61,6 +63,7 @@ pub fn number(refusal: Refusal) -> u8
         Refusal::TotalTooLong => 14,
         Refusal::InputTooLong => 15,
         Refusal::NotWholePixels => 16,
+        Refusal::NotFinite => 17,
     }
 }
 

@@ -1,0 +1,51 @@
+-- `numbers::doubles::nearest_whole` meets its contract.
+-- Assumes nothing.
+use mathlib.Core.Path.{_≡_, ap, _∙_}
+use Prim.Native.Nat.{ℕ, _<_, _^_}
+use lib.IntN.{pos, negℤ}
+use mir.Syntax.{w64}
+use mir.ValLaws.{toZ-pos}
+use borrow.Author.Needs.{needs}
+use Rattle.numbers.proofs.Sign.{opposite-fits, opposite-is}
+use Rattle.numbers.proofs.Whole.{of-negative, of-other}
+use Rattle.numbers.proofs.doubles.nearest_whole.Statement.{statement}
+use Rattle.numbers.proofs.doubles.nearest_whole.Tie as tie
+
+nearest-size-requires : tie.Need-nearest-size-requires
+nearest-size-requires c κs = search needs
+
+cast-result : tie.Need-cast-result
+cast-result c = search needs
+
+small : (c : tie.After-nearest-size) → c .nearest-size .result < 2 ^ 63
+small c = search needs
+
+sub-result : tie.Need-sub-result
+sub-result c = opposite-fits w64 (c .nearest-size .result) (small c)
+
+nearest-size-requires-2 : tie.Need-nearest-size-requires-2
+nearest-size-requires-2 c κs = search needs
+
+cast-result-2 : tie.Need-cast-result-2
+cast-result-2 c = search needs
+
+returns : tie.Need-returns
+returns c =
+    opposite-is w64 (c .nearest-size .result) (small c)
+    ∙ ap (λ (n : ℕ). negℤ (pos n)) (c .nearest-size .ensures)
+    ∙ of-negative _ _ _ (c .before .if1 .taken)
+
+returns-2 : tie.Need-returns-2
+returns-2 c = toZ-pos w64 (c .nearest-size2 .result) (search needs) ∙ ap pos (c .nearest-size2 .ensures) ∙ of-other _ _ _ (c .before .if1 .left)
+
+pub nearest-whole-spec : {M : Type 1} → statement M
+nearest-whole-spec =
+    tie.close
+    (tie.spec
+    nearest-size-requires
+    cast-result
+    sub-result
+    nearest-size-requires-2
+    cast-result-2
+    returns
+    returns-2)

@@ -8,6 +8,7 @@ use lib.IntN.{ℤ}
 use Rattle.refusal.specs.Refusals.{numberOf}
 use Rattle.refusal.specs.Answers.{Said, accepted}
 use Rattle.samples.specs.declared.Coding.the-variants.{Codes}
+use Rattle.samples.specs.declared.Pixel.{Pixel}
 use Rattle.samples.specs.Samples.{twoByTwo, bytesOf}
 use Rattle.samples.specs.Faults.{inOrder, sourceSays}
 use Rattle.esrgb.specs.Depths.{greatest}
@@ -56,3 +57,7 @@ codeSays n light = cond (not (offersLight n)) (refuses 9) (gives (codeOfLight n 
 abbrev pub codeSaid : CodeFound → Single ℕ
 codeSaid (Code code) = gives code
 codeSaid (code-found.Refused r) = refuses (numberOf r)
+
+-- Three lights as a pixel of 12-bit codes.
+abbrev pub pixelOfLight : ℤ → ℤ → ℤ → Pixel
+pixelOfLight red green blue = record { first = codeOfLight 12 red; second = codeOfLight 12 green; third = codeOfLight 12 blue }

@@ -8,6 +8,7 @@ use numbers::two_bytes;
 use refusal::Answer;
 use refusal::Refusal;
 use samples::Coding;
+use samples::Pixel;
 use samples::count_pixels;
 use samples::examine;
 use samples::sample;
@@ -29,7 +30,7 @@ ghost use Rattle.esrgb.specs.Depths.{bits};
 ghost use Rattle.transfer.specs.Light.{offersLight, scale, lightOfCode};
 ghost use Rattle.transfer.specs.Level.{levelOfLight, codeOfLight};
 ghost use Rattle.transfer.specs.HowTabled.{levels, startOf, LightTable, ThresholdTable, StartTable};
-ghost use Rattle.linear.specs.Operations.{codesToLightSays, codesToLight, lightToCodesSays, lightToCodes, lightSays, lightSaid, codeSays, codeSaid};
+ghost use Rattle.linear.specs.Operations.{codesToLightSays, codesToLight, lightToCodesSays, lightToCodes, lightSays, lightSaid, codeSays, codeSaid, pixelOfLight};
 
 // Codes to light: each two-byte sample becomes a number. It refuses as Convert does, and a depth other
 // than 10 and 12 is not offered.
@@ -288,5 +289,18 @@ pub fn code_of_light(depth: u32, light: i32) -> CodeFound
             CodeFound::Code(code_of(&starts, &thresholds, Depth::Twelve, light))
         }
         _ => CodeFound::Refused(Refusal::DepthNotOffered),
+    }
+}
+
+// The 12-bit codes of three lights, as a pixel. The tables are made once for the three.
+pub fn pixel_of_light(red: i32, green: i32, blue: i32) -> Pixel
+    ensures { λ r. ⌜ r ≡ pixelOfLight red green blue ⌝ }
+{
+    let starts = start_table();
+    let thresholds = thresholds_at_twelve();
+    Pixel {
+        first: code_of(&starts, &thresholds, Depth::Twelve, red),
+        second: code_of(&starts, &thresholds, Depth::Twelve, green),
+        third: code_of(&starts, &thresholds, Depth::Twelve, blue),
     }
 }

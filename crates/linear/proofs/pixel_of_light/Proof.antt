@@ -1,0 +1,57 @@
+-- `linear::pixel_of_light` meets its contract: the code of each light, from the same tables.
+-- Assumes nothing.
+use Prim.Native.Nat.{ℕ}
+use mathlib.Core.Path.{_≡_, ap, _∙_}
+use Rattle.transfer.specs.Level.{codeOfLight}
+use Rattle.linear.proofs.Sign.{read}
+use borrow.Author.Needs.{needs}
+use Rattle.linear.proofs.pixel_of_light.Statement.{statement}
+use Rattle.linear.proofs.pixel_of_light.Tie as tie
+
+start-table-requires : tie.Need-start-table-requires
+start-table-requires c κs = search needs
+
+thresholds-at-twelve-requires : tie.Need-thresholds-at-twelve-requires
+thresholds-at-twelve-requires c κs = search needs
+
+slice-aggregate-code-of : tie.Need-slice-aggregate-code-of
+slice-aggregate-code-of c = search needs
+
+code-of-requires : tie.Need-code-of-requires
+code-of-requires c κs = search needs
+
+slice-aggregate-code-of-2 : tie.Need-slice-aggregate-code-of-2
+slice-aggregate-code-of-2 c = search needs
+
+code-of-requires-2 : tie.Need-code-of-requires-2
+code-of-requires-2 c κs = search needs
+
+slice-aggregate-code-of-3 : tie.Need-slice-aggregate-code-of-3
+slice-aggregate-code-of-3 c = search needs
+
+code-of-requires-3 : tie.Need-code-of-requires-3
+code-of-requires-3 c κs = search needs
+
+returns : tie.Need-returns
+returns c =
+    let two = c .before .before .before in
+    let one = two .before .before .before in
+    let fits = one .before .before .before .before .before .fits in
+    let red = one .code-of .ensures ∙ ap (codeOfLight 12) (read _ (fits .red)) in
+    let green = two .code-of2 .ensures ∙ ap (codeOfLight 12) (read _ (fits .green)) in
+    let blue = c .code-of3 .ensures ∙ ap (codeOfLight 12) (read _ (fits .blue)) in
+    cc (red, green, blue)
+
+pub pixel-of-light-spec : {M : Type 1} → statement M
+pixel-of-light-spec =
+    tie.close
+    (tie.spec
+    start-table-requires
+    thresholds-at-twelve-requires
+    slice-aggregate-code-of
+    code-of-requires
+    slice-aggregate-code-of-2
+    code-of-requires-2
+    slice-aggregate-code-of-3
+    code-of-requires-3
+    returns)

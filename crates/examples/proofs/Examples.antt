@@ -1,10 +1,12 @@
--- Every example holds. Those of pixels are computed; those of light are computed by the powers that decide them.
+-- Every example holds. Those of pixels are computed; those of light are computed by the powers that decide them, and those of tints are
+-- facts of the crate `tint`.
 -- Assumes nothing.
 use mathlib.Core.Path.{refl}
 use Rattle.numbers.specs.Rounding.{nearest, nearestDown}
 use Rattle.esrgb.specs.Codes.{fromSrgb, toSrgb}
 use Rattle.lumachroma.specs.LumaChroma.{luma, chroma, blueChroma, redChroma, clipped, redBack, greenBack, blueBack}
 use Rattle.transfer.proofs.Examples.{light-examples, code-examples}
+use Rattle.tint.proofs.Examples as tints
 use Rattle.examples.specs.Examples.{AllHold, done, _&_, examples}
 
 pub all-hold : AllHold examples
@@ -14,4 +16,6 @@ all-hold =
     & light-examples .0 & light-examples .1 & light-examples .2 & light-examples .3 & light-examples .4
     & code-examples .0 & code-examples .1
     & refl & refl & refl & refl & refl & refl & refl & refl & refl
+    & tints.code-example & tints.nonlinear-examples .0 & tints.nonlinear-examples .1 & tints.nonlinear-examples .2
+    & tints.light-examples & tints.refused-examples .0 & tints.refused-examples .1
     & done

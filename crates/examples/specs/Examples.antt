@@ -1,9 +1,12 @@
--- The examples that are proved (rules 10.1 to 10.5), one after another: document 01's starred swatches.
+-- The examples that are proved (rules 10.1 to 10.5, and 10.8), one after another: those to 10.5 are document 01's starred swatches.
 -- Assumes nothing.
 use Prim.Native.Nat.{ℕ, suc, _+_, _-_}
 use mathlib.Core.Path.{_≡_}
+use mathlib.Core.Bool.{true, false}
 use mathlib.Core.List.{List, [], _∷_}
 use lib.IntN.{ℤ, pos, negsuc}
+use lib.Ieee.{nan, inf, fin, neg}
+use Rattle.numbers.specs.Doubles.{double}
 use Rattle.samples.specs.declared.Pixel.{Pixel}
 use Rattle.samples.specs.Samples.{pixel}
 use Rattle.esrgb.specs.Depths.{offset}
@@ -14,6 +17,9 @@ use Rattle.lumachroma.specs.LumaChroma.{toLumaChroma, toRgb}
 use Rattle.picture.specs.Convert.{each, pixelOf}
 use Rattle.transfer.specs.Light.{lightOfCode}
 use Rattle.transfer.specs.Level.{codeOfLight}
+use Rattle.tint.specs.declared.Tint.{Tint}
+use Rattle.tint.specs.declared.Tint.the-variants.{Code, Nonlinear, Light}
+use Rattle.tint.specs.Tints.{TintSaid, gives, refusesAt, channels, tintSays}
 
 -- An example: an operation, its input, and what the rules print for it. Single samples stand three to a pixel.
 pub data Example : Type 0 where
@@ -22,6 +28,7 @@ pub data Example : Type 0 where
   fromSrgbAndBack : ℕ → Pixel → Pixel → Example
   lightOf : ℕ → ℤ → ℤ → Example
   codeOf : ℕ → ℤ → ℕ → Example
+  tint : Tint → TintSaid → Example
 
 -- The code of a level, which may be negative; negsuc k is −(k + 1).
 abbrev pub codeOfLevel : ℕ → ℤ → ℕ
@@ -29,13 +36,14 @@ codeOfLevel n (pos v) = offset n + v
 codeOfLevel n (negsuc k) = offset n - suc k
 
 -- What an example says: Convert of one pixel; a pixel of codes to luma and chroma and back; an sRGB pixel to codes, there and
--- back, and to sRGB; the light of a level; the code of a light.
+-- back, and to sRGB; the light of a level; the code of a light; what is said of a tint.
 abbrev pub Holds : Example → Type 0
 Holds (convert c p printed) = pixelOf c p ≡ printed
 Holds (thereAndBack n p printed) = toRgb n (toLumaChroma n p) ≡ printed
 Holds (fromSrgbAndBack n p printed) = each (toSrgb n) (toRgb n (toLumaChroma n (each (fromSrgb n) p))) ≡ printed
 Holds (lightOf n level printed) = lightOfCode n (codeOfLevel n level) ≡ printed
 Holds (codeOf n light printed) = codeOfLight n light ≡ printed
+Holds (tint t printed) = tintSays t ≡ printed
 
 infixr 40 _&_
 pub data AllHold : List Example → Type 0 where
@@ -70,4 +78,12 @@ examples =
     -- Rule 10.5.
     ∷ fromSrgbAndBack 10 (pixel 0 0 255) (pixel 1 0 255)
     ∷ fromSrgbAndBack 12 (pixel 0 0 255) (pixel 0 0 255)
+    -- Rule 10.8. `double a b` is the double nearest to a / b, and `fin negative m e` is m × 2^e.
+    ∷ tint (Code 0 128 255) (gives (pixel 1536 2560 3576))
+    ∷ tint (Nonlinear (channels (double 0 1) (double 1 1) (double 5 4))) (gives (pixel 1536 3576 4086))
+    ∷ tint (Nonlinear (channels (double 1 4080) (neg (double 1 4080)) (neg (double 0 1)))) (gives (pixel 1537 1536 1536))
+    ∷ tint (Nonlinear (channels (fin false 1 (pos 1023)) (fin true 1 (pos 1023)) (fin false 1 (negsuc 1073)))) (gives (pixel 4095 0 1536))
+    ∷ tint (Light (channels (double 313 100000) (double 3131 1000000) (double 0 1))) (gives (pixel 1618 1619 1536))
+    ∷ tint (Nonlinear (channels (double 1 1) (inf true) nan)) (refusesAt 17 1)
+    ∷ tint (Light (channels nan (double 1 1) (inf false))) (refusesAt 17 0)
     ∷ []

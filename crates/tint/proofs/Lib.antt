@@ -1,0 +1,3 @@
+pub mod Rounded
+pub mod Meaning
+pub mod Examples

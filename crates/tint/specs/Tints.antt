@@ -1,0 +1,80 @@
+-- Tints: a colour of three channels as a pixel of 12-bit e-sRGB (rules, section 11).
+-- Assumes nothing.
+use Prim.Native.Nat.{ℕ, _^_}
+use mathlib.Core.Bool.{cond, not}
+use lib.IntN.{ℤ, pos, natAbs}
+use lib.Ieee.{Float, binary64, add, mul, ofInt}
+use lib.Ieee.Scale.{finite}
+use Rattle.numbers.specs.Doubles.{nearestWhole}
+use Rattle.refusal.specs.Refusals.{numberOf}
+use Rattle.samples.specs.declared.Pixel.{Pixel}
+use Rattle.esrgb.specs.Depths.{greatest, offset}
+use Rattle.esrgb.specs.Codes.{fromSrgb}
+use Rattle.transfer.specs.Light.{scale}
+use Rattle.linear.specs.Operations.{pixelOfLight}
+use Rattle.tint.specs.declared.Channels.{Channels}
+use Rattle.tint.specs.declared.Tint.{Tint}
+use Rattle.tint.specs.declared.Tint.the-variants.{Code, Nonlinear, Light}
+use Rattle.tint.specs.declared.ChannelFault.{ChannelFault}
+use Rattle.tint.specs.declared.ChannelFault.the-variants.{At, Nowhere}
+use Rattle.tint.specs.declared.Tinted.{Tinted}
+use Rattle.tint.specs.declared.Tinted.the-variants.{Accepted, Refused}
+
+-- Rule 11.1: three channels.
+abbrev pub channels : Float → Float → Float → Channels
+channels red green blue = record { red = red; green = green; blue = blue }
+
+-- Rule 11.3: `times` and `plus` give the double nearest to the product and to the sum, ties to the even one, and an infinity where
+-- that is too large for a double.
+abbrev pub times : Float → ℕ → Float
+times x n = mul binary64 x (ofInt binary64 (pos n))
+
+abbrev pub plus : Float → ℕ → Float
+plus x n = add binary64 x (ofInt binary64 (pos n))
+
+-- Rule 11.4: a nonlinear number times the scale, which is 2,040, plus the offset, which is 1,536; the nearest whole number, ties upward,
+-- clipped to 0..4,095. It is not negative, so natAbs only makes it a number of ℕ.
+unfoldable pub nonlinearCode : Float → ℕ
+nonlinearCode x = natAbs (nearestWhole 0 (greatest 12) (plus (times x (scale 12)) (offset 12)))
+
+-- Rule 11.5: light times 1,000,000; the nearest whole number, ties upward, clipped to −2,000,000..2,000,000.
+abbrev pub lightLimit : ℕ
+lightLimit = 2000000
+
+unfoldable pub lightNumber : Float → ℤ
+lightNumber x = nearestWhole lightLimit lightLimit (times x (10 ^ 6))
+
+-- The pixel of a tint: rule 11.2 by the rule from sRGB, 11.4, and 11.5 by the rule from light to code.
+abbrev pub tintPixel : Tint → Pixel
+tintPixel (Code red green blue) = record { first = fromSrgb 12 red; second = fromSrgb 12 green; third = fromSrgb 12 blue }
+tintPixel (Nonlinear c) = record { first = nonlinearCode (c .red); second = nonlinearCode (c .green); third = nonlinearCode (c .blue) }
+tintPixel (Light c) = pixelOfLight (lightNumber (c .red)) (lightNumber (c .green)) (lightNumber (c .blue))
+
+-- Rule 11.6: the first channel that is infinite or not a number. 8-bit codes have none.
+abbrev pub firstFault : Channels → ChannelFault
+firstFault c =
+    cond (not (finite (c .red))) (At 0)
+    (cond (not (finite (c .green))) (At 1)
+    (cond (not (finite (c .blue))) (At 2)
+    Nowhere))
+
+abbrev pub tintFault : Tint → ChannelFault
+tintFault (Code red green blue) = Nowhere
+tintFault (Nonlinear c) = firstFault c
+tintFault (Light c) = firstFault c
+
+-- What is said of a tint: its pixel, or a refusal's number and the channel at fault.
+pub data TintSaid : Type 0 where
+  gives : Pixel → TintSaid
+  refusesAt : ℕ → ℕ → TintSaid
+
+abbrev pub tintSaid : Tinted → TintSaid
+tintSaid (Accepted p) = gives p
+tintSaid (Refused r at) = refusesAt (numberOf r) at
+
+abbrev pub faultOr : ChannelFault → Pixel → TintSaid
+faultOr (At k) p = refusesAt 17 k
+faultOr Nowhere p = gives p
+
+abbrev pub tintSays : Tint → TintSaid
+tintSays t = faultOr (tintFault t) (tintPixel t)

@@ -20,7 +20,7 @@
  * - No pointer is null, not even that of an empty buffer. Each points to as much as its length or
  *   its type says, aligned as C asks.
  * - What a call writes overlaps nothing else that it is given. It writes destinations, and what
- *   place, again, again_place, answers, places, shop, table, next, record and text point to.
+ *   place, again, again_place, answers, places, pixel, shop, table, next, record and text point to.
  * - A buffer is shorter than 2^63 bytes.
  * - During a call nobody else writes what the call is given, or reads what it writes.
  *
@@ -55,7 +55,8 @@ enum kiosk_refusal {
     KIOSK_CHROMA_ZERO = 13,              /* a chroma of code 0; place: its byte offset */
     KIOSK_TOTAL_TOO_LONG = 14,           /* a spool longer than 4,294,967,295 bytes */
     KIOSK_INPUT_TOO_LONG = 15,           /* a file too long for the listing: only its text says so */
-    KIOSK_NOT_WHOLE_PIXELS = 16          /* the source is whole samples, and not whole pixels */
+    KIOSK_NOT_WHOLE_PIXELS = 16,         /* the source is whole samples, and not whole pixels */
+    KIOSK_NOT_FINITE = 17                /* a tint's channel that is infinite or not a number; place: its number, 0 to 2 */
 };
 
 /* What a frame's pixels are (rule 7.3). */
@@ -125,6 +126,20 @@ int64_t kiosk_code_to_light(uint32_t depth, const uint8_t *src, size_t src_len,
 /* Converts light to e-sRGB codes, clipping: src_len counts numbers. Refuses with 9, 16 or 11. */
 int64_t kiosk_light_to_code(uint32_t depth, const int32_t *src, size_t src_len,
                             uint8_t *dst, size_t dst_len);
+
+/* ---- Tints (rule 11): a colour of three channels as one pixel of 12-bit e-sRGB, three codes in `pixel`.
+ * Those of doubles give the pixel count, which is 1, or refuse with 17 if a channel is infinite or not a
+ * number; then `pixel` stays as it was, and the place is the first such channel: 0 red, 1 green, 2 blue.
+ * Anything else is a number, also -0.0 and what is too small or too great for a code, which is clipped. ---- */
+
+/* A tint of 8-bit sRGB values. It is never refused. */
+void kiosk_tint_code(uint8_t red, uint8_t green, uint8_t blue, uint16_t pixel[3]);
+
+/* A tint of nonlinear numbers: 0 is black and 1 is white. */
+int64_t kiosk_tint_nonlinear(double red, double green, double blue, uint16_t pixel[3], size_t *place);
+
+/* A tint of linear light: 1 is reference white. */
+int64_t kiosk_tint_light(double red, double green, double blue, uint16_t pixel[3], size_t *place);
 
 /* ---- Spool files (rule 7) ---- */
 

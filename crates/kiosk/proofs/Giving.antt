@@ -1,14 +1,19 @@
 -- From what an operation says and leaves, and what C is told of its answer, to what C gets.
 -- Assumes nothing.
 use Prim.Native.Nat.{ℕ}
-use mathlib.Core.Path.{_≡_, ap, _∙_}
+use mathlib.Core.Path.{_≡_, refl, ap, _∙_}
 use mathlib.Core.List.{List}
-use lib.IntN.{ℤ}
+use lib.IntN.{ℤ, pos}
 use lib.ListN.{length}
 use Rattle.refusal.specs.Answers.{Said, leaves}
 use Rattle.picture.specs.declared.Conversion.{Conversion}
 use Rattle.picture.specs.Convert.{convertSays, convertBytes}
-use Rattle.kiosk.specs.Interface.{answerOf, placeOf, Gives, Converts}
+use Rattle.samples.specs.declared.Pixel.{Pixel}
+use Rattle.tint.specs.declared.Tint.{Tint}
+use Rattle.tint.specs.Tints as tint
+use Rattle.tint.specs.Tints.{TintSaid, refusesAt, tintPixel, tintSays}
+use Rattle.tint.proofs.Meaning.{pixel-given}
+use Rattle.kiosk.specs.Interface.{minus, answerOf, placeOf, Gives, Converts, answerOfOne, samplesOfOne, Tints}
 
 pub gives : {A : Type 0} (new dst : List A) (place : ℕ) {s says : Said} {r : ℤ} {dst′ : List A} {place′ : ℕ}
     → s ≡ says → dst′ ≡ leaves says new dst → r ≡ answerOf s → place′ ≡ placeOf s place → Gives says new r dst dst′ place place′
@@ -19,3 +24,15 @@ pub converts : (c : Conversion) (src dst : List ℕ) (place : ℕ) {s : Said} {r
     → s ≡ convertSays c src (length dst) → dst′ ≡ convertBytes c src dst → r ≡ answerOf s → place′ ≡ placeOf s place
     → Converts c src r dst dst′ place place′
 converts c src dst place e content answer at = gives _ dst place e content answer at
+
+-- The same of a tint.
+module _ (t : Tint) (dst : List ℕ) (place : ℕ) where
+  pub tints-given : (p : Pixel) → tint.gives p ≡ tintSays t → Tints t (pos 1) dst (samplesOfOne p) place place
+  tints-given p e =
+      gives _ dst place (ap answerOfOne e)
+      (ap samplesOfOne (pixel-given t p e) ∙ ap (λ (s : TintSaid). leaves (answerOfOne s) (samplesOfOne (tintPixel t)) dst) e)
+      refl refl
+
+  pub tints-refused : (k channel : ℕ) {r : ℤ} → refusesAt k channel ≡ tintSays t → r ≡ minus k → Tints t r dst dst place channel
+  tints-refused k channel e is =
+      gives _ dst place (ap answerOfOne e) (ap (λ (s : TintSaid). leaves (answerOfOne s) (samplesOfOne (tintPixel t)) dst) e) is refl

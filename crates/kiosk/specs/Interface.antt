@@ -3,14 +3,18 @@
 -- Assumes nothing.
 use Prim.Native.Nat.{ℕ, _^_, _<_}
 use mathlib.Core.Path.{_≡_}
-use mathlib.Core.List.{List}
+use mathlib.Core.List.{List, [], _∷_}
 use lib.ListN.{length, getD}
 use lib.IntN.{ℤ, pos, negℤ}
 use Rattle.refusal.specs.Answers.{Said, accepted, refused, refusedAt, leaves}
+use Rattle.samples.specs.declared.Pixel.{Pixel}
+use Rattle.samples.specs.Samples.{samplesIn}
 use Rattle.records.specs.Layout.{recordBytes}
 use Rattle.records.specs.Faults.{pixelBytes}
 use Rattle.picture.specs.declared.Conversion.{Conversion}
 use Rattle.picture.specs.Convert.{convertSays, converted}
+use Rattle.tint.specs.declared.Tint.{Tint}
+use Rattle.tint.specs.Tints.{TintSaid, gives, refusesAt, tintPixel, tintSays}
 use Rattle.spool.specs.Open.{OpenSaid, opens, refusesFile}
 use Rattle.spool.specs.Find.{FindSaid, finds, refusesFrame}
 
@@ -48,6 +52,17 @@ abbrev pub Countable : Said → Type 0
 Countable (accepted n) = n < 2 ^ 63
 Countable (refused k) = Unit
 Countable (refusedAt k at) = Unit
+
+-- Rules, section 11: a tint answers as a conversion of one pixel does. The place is that of the channel, and the pixel three numbers.
+abbrev pub answerOfOne : TintSaid → Said
+answerOfOne (gives p) = accepted 1
+answerOfOne (refusesAt k channel) = refusedAt k channel
+
+abbrev pub samplesOfOne : Pixel → List ℕ
+samplesOfOne p = samplesIn (p ∷ [])
+
+abbrev pub Tints : Tint → ℤ → List ℕ → List ℕ → ℕ → ℕ → Type 0
+Tints t r dst dst′ place place′ = Gives (answerOfOne (tintSays t)) (samplesOfOne (tintPixel t)) r dst dst′ place place′
 
 -- Rule 7.5: the frame count is returned, shop and offset of the table are written. Refused, both keep what they held.
 abbrev pub openAnswer : OpenSaid → ℤ

@@ -23,19 +23,24 @@ use spool::Found;
 use spool::Opened;
 use spool::find;
 use spool::open;
+use tint::Channels;
+use tint::Tint;
+use tint::Tinted;
+use tint::to_pixel;
 ghost use mathlib.Core.Path.{_≡_};
 ghost use Prim.Native.Nat.{_≤_};
 ghost use lib.ListN.{length, take};
 ghost use Rattle.refusal.specs.Refusals.{numberOf};
 ghost use Rattle.refusal.specs.Answers.{said, leaves};
 ghost use Rattle.linear.specs.Operations.{codesToLightSays, codesToLight, lightToCodesSays, lightToCodes};
+ghost use Rattle.tint.specs.Tints.{channels, tintPixel};
 ghost use Rattle.spool.specs.Open.{openSays};
 ghost use Rattle.spool.specs.Find.{findSaid, findSays};
 ghost use Rattle.frames.specs.Walk.{nextNumber};
 ghost use Rattle.layout.specs.LayOut.{layoutSays, layoutBytes};
 ghost use Rattle.listing.specs.Text.{putText};
 ghost use Rattle.listing.specs.Listing.{listing};
-ghost use Rattle.kiosk.specs.Interface.{minus, answerOf, placeOf, Gives, Converts, ConvertsAt, Countable, openAnswer, openShop, openTable, findAnswer, findRecord};
+ghost use Rattle.kiosk.specs.Interface.{minus, answerOf, placeOf, Gives, Converts, ConvertsAt, Countable, Tints, samplesOfOne, openAnswer, openShop, openTable, findAnswer, findRecord};
 
 // A refusal, as C gets it.
 fn refused(refusal: Refusal) -> i64
@@ -150,6 +155,60 @@ pub extern "C" fn kiosk_light_to_code(depth: u32, src: &[i32], dst: &mut [u8]) -
     let answer = light_to_code(depth, src, dst);
     let mut place = 0;
     answered(answer, &mut place)
+}
+
+// ---- tints
+
+fn tinted(tint: Tint, pixel: &mut [u16; 3], place: &mut usize) -> i64
+    ensures { λ r. ⌜ Tints tint r (now (pixel .entry)) (now (pixel .exit)) (now (place .entry)) (now (place .exit)) ⌝ }
+{
+    match to_pixel(tint) {
+        Tinted::Accepted(codes) => {
+            *pixel = [codes.first, codes.second, codes.third];
+            1
+        }
+        Tinted::Refused(refusal, channel) => {
+            *place = channel;
+            refused(refusal)
+        }
+    }
+}
+
+// A tint of 8-bit codes. It is never refused.
+#[no_mangle]
+pub extern "C" fn kiosk_tint_code(red: u8, green: u8, blue: u8, pixel: &mut [u16; 3])
+    ensures { λ _. ⌜ now (pixel .exit) ≡ samplesOfOne (tintPixel (Tint.Code red green blue)) ⌝ }
+{
+    let mut place = 0;
+    let _pixels = tinted(Tint::Code(red, green, blue), pixel, &mut place);
+}
+
+// A tint of nonlinear numbers.
+#[no_mangle]
+pub extern "C" fn kiosk_tint_nonlinear(
+    red: f64,
+    green: f64,
+    blue: f64,
+    pixel: &mut [u16; 3],
+    place: &mut usize,
+) -> i64
+    ensures { λ r. ⌜ Tints (Tint.Nonlinear (channels red green blue)) r (now (pixel .entry)) (now (pixel .exit)) (now (place .entry)) (now (place .exit)) ⌝ }
+{
+    tinted(Tint::Nonlinear(Channels { red, green, blue }), pixel, place)
+}
+
+// A tint of light.
+#[no_mangle]
+pub extern "C" fn kiosk_tint_light(
+    red: f64,
+    green: f64,
+    blue: f64,
+    pixel: &mut [u16; 3],
+    place: &mut usize,
+) -> i64
+    ensures { λ r. ⌜ Tints (Tint.Light (channels red green blue)) r (now (pixel .entry)) (now (pixel .exit)) (now (place .entry)) (now (place .exit)) ⌝ }
+{
+    tinted(Tint::Light(Channels { red, green, blue }), pixel, place)
 }
 
 // ---- the round trip

@@ -85,6 +85,21 @@ mod c {
             dst: *mut u8,
             dst_len: usize,
         ) -> i64;
+        pub fn kiosk_tint_code(red: u8, green: u8, blue: u8, pixel: *mut [u16; 3]);
+        pub fn kiosk_tint_nonlinear(
+            red: f64,
+            green: f64,
+            blue: f64,
+            pixel: *mut [u16; 3],
+            place: *mut usize,
+        ) -> i64;
+        pub fn kiosk_tint_light(
+            red: f64,
+            green: f64,
+            blue: f64,
+            pixel: *mut [u16; 3],
+            place: *mut usize,
+        ) -> i64;
         pub fn kiosk_open(file: *const u8, file_len: usize, shop: *mut u16, table: *mut u32)
             -> i64;
         pub fn kiosk_find(
@@ -240,6 +255,21 @@ pub fn light_to_code(depth: u32, src: &[i32], dst: &mut [u8]) -> Given {
         c::kiosk_light_to_code(depth, src.as_ptr(), src.len(), dst.as_mut_ptr(), dst.len())
     };
     given(answer, UNWRITTEN)
+}
+
+pub fn tint_code([red, green, blue]: [u8; 3], pixel: &mut [u16; 3]) {
+    // SAFETY: the pointer is that of three numbers.
+    unsafe { c::kiosk_tint_code(red, green, blue, pixel) }
+}
+
+pub fn tint_nonlinear([red, green, blue]: [f64; 3], pixel: &mut [u16; 3]) -> Given {
+    // SAFETY: the pointers are those of three numbers and of a local.
+    placed(|place| unsafe { c::kiosk_tint_nonlinear(red, green, blue, pixel, place) })
+}
+
+pub fn tint_light([red, green, blue]: [f64; 3], pixel: &mut [u16; 3]) -> Given {
+    // SAFETY: as of `tint_nonlinear`.
+    placed(|place| unsafe { c::kiosk_tint_light(red, green, blue, pixel, place) })
 }
 
 /// The frame count or a refusal, the shop and the table offset.

@@ -115,6 +115,33 @@ pub fn light_to_code(depth: u32, src: &[i32], dst: &mut [u8]) -> Result<usize, R
     counted(calls::light_to_code(depth, src, dst))
 }
 
+/// A tint: a colour as red, green and blue (rule 11.1).
+#[derive(Clone, Copy, Debug, PartialEq)]
+pub enum Tint {
+    /// Values of 8-bit sRGB.
+    Code([u8; 3]),
+    /// Nonlinear numbers: 0 is black and 1 is white.
+    Nonlinear([f64; 3]),
+    /// Linear light: 1 is reference white.
+    Light([f64; 3]),
+}
+
+/// Converts a tint to a pixel of 12-bit e-sRGB codes, clipping. A channel that is infinite or not a number is refused,
+/// and the place is the first such channel, 0 to 2.
+pub fn tint_to_pixel(tint: Tint) -> Result<[u16; 3], Refusal> {
+    let mut pixel = [0; 3];
+    match tint {
+        Tint::Code(values) => calls::tint_code(values, &mut pixel),
+        Tint::Nonlinear(numbers) => {
+            counted(calls::tint_nonlinear(numbers, &mut pixel))?;
+        }
+        Tint::Light(numbers) => {
+            counted(calls::tint_light(numbers, &mut pixel))?;
+        }
+    }
+    Ok(pixel)
+}
+
 /// A frame's record, with the layout that it has in a spool file.
 #[repr(C)]
 #[derive(Clone, Copy, Debug, Default, PartialEq, Eq)]

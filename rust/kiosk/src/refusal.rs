@@ -22,11 +22,12 @@ pub enum Fault {
     TotalTooLong,
     InputTooLong,
     NotWholePixels,
+    NotFinite,
 }
 
 impl Fault {
     /// All faults, each at its number less one.
-    pub const ALL: [Fault; 16] = [
+    pub const ALL: [Fault; 17] = [
         Fault::TooShort,
         Fault::WrongFileLength,
         Fault::TooManyFrames,
@@ -43,6 +44,7 @@ impl Fault {
         Fault::TotalTooLong,
         Fault::InputTooLong,
         Fault::NotWholePixels,
+        Fault::NotFinite,
     ];
 
     /// The number of the refusal.
@@ -73,6 +75,7 @@ impl Fault {
             Fault::TotalTooLong => "the spool would be longer than 4,294,967,295 bytes",
             Fault::InputTooLong => "a listing takes at most 65,536 bytes",
             Fault::NotWholePixels => "the source is not whole pixels: three samples make one",
+            Fault::NotFinite => "a channel of the tint is infinite or not a number",
         }
     }
 }
@@ -81,7 +84,7 @@ impl Fault {
 #[derive(Clone, Copy, Debug, PartialEq, Eq)]
 pub struct Refusal {
     pub fault: Fault,
-    /// The byte offset of a sample, or the number of a record in its list.
+    /// The byte offset of a sample, the number of a record in its list, or that of a tint's channel.
     pub place: Option<usize>,
 }
 
@@ -92,6 +95,10 @@ impl fmt::Display for Refusal {
             (None, _) => Ok(()),
             (Some(place), Fault::UnknownKind | Fault::WrongSize) => {
                 write!(f, " (record {place})")
+            }
+            (Some(place), Fault::NotFinite) => {
+                let name = ["red", "green", "blue"].get(place).unwrap_or(&"unknown");
+                write!(f, " (channel {place}, {name})")
             }
             (Some(place), _) => write!(f, " (byte {place})"),
         }
@@ -141,6 +148,10 @@ mod tests {
         assert_eq!(
             words(Fault::NotWholePixels, None),
             "refusal 16: the source is not whole pixels: three samples make one"
+        );
+        assert_eq!(
+            words(Fault::NotFinite, Some(1)),
+            "refusal 17: a channel of the tint is infinite or not a number (channel 1, green)"
         );
     }
 }

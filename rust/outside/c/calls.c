@@ -4,6 +4,8 @@
  */
 #include "kiosk.h"
 
+#include <float.h>
+#include <math.h>
 #include <stdio.h>
 #include <string.h>
 
@@ -166,6 +168,46 @@ static void light(void)
     CHECK(place == 10);
 }
 
+/* Does a pixel hold these three codes? */
+static int holds(const uint16_t pixel[3], unsigned red, unsigned green, unsigned blue)
+{
+    return pixel[0] == red && pixel[1] == green && pixel[2] == blue;
+}
+
+/* Does either tint of doubles refuse these channels at this one, and leave the pixel as it was? */
+static int refuses_at(size_t channel, double red, double green, double blue)
+{
+    uint16_t pixel[3] = {1, 2, 3};
+    size_t place = 77, light_place = 78;
+
+    return kiosk_tint_nonlinear(red, green, blue, pixel, &place) == -KIOSK_NOT_FINITE && place == channel &&
+           kiosk_tint_light(red, green, blue, pixel, &light_place) == -KIOSK_NOT_FINITE &&
+           light_place == channel && holds(pixel, 1, 2, 3);
+}
+
+static void tints(void)
+{
+    uint16_t pixel[3] = {0, 0, 0};
+    size_t place = 77;
+
+    kiosk_tint_code(0, 128, 255, pixel);
+    CHECK(holds(pixel, 1536, 2560, 3576));
+    CHECK(kiosk_tint_nonlinear(0.0, 1.0, 1.25, pixel, &place) == 1);
+    CHECK(holds(pixel, 1536, 3576, 4086));
+    CHECK(kiosk_tint_nonlinear(1.0 / 4080, -1.0 / 4080, -0.0, pixel, &place) == 1);
+    CHECK(holds(pixel, 1537, 1536, 1536));
+    CHECK(kiosk_tint_nonlinear(DBL_MAX, -DBL_MAX, DBL_MIN, pixel, &place) == 1);
+    CHECK(holds(pixel, 4095, 0, 1536));
+    CHECK(kiosk_tint_light(0.00313, 0.003131, 0.0, pixel, &place) == 1);
+    CHECK(holds(pixel, 1618, 1619, 1536));
+    CHECK(kiosk_tint_light(1.0, -DBL_MAX, DBL_MAX, pixel, &place) == 1);
+    CHECK(holds(pixel, 3576, 0, 4095));
+    CHECK(place == 77);
+    CHECK(refuses_at(0, (double)INFINITY, 0.0, 0.0) && refuses_at(0, (double)NAN, (double)NAN, 0.0));
+    CHECK(refuses_at(1, 0.0, (double)-INFINITY, (double)NAN) && refuses_at(1, DBL_MAX, (double)NAN, 0.0));
+    CHECK(refuses_at(2, -0.0, DBL_MAX, (double)INFINITY) && refuses_at(2, 1.0, 1.0, (double)NAN));
+}
+
 static void spools(void)
 {
     struct kiosk_record records[2] = {
@@ -253,6 +295,7 @@ int main(void)
     round_trip_refused();
     both_runs();
     light();
+    tints();
     spools();
     listings();
     printf("%d checks from C, %d failed\n", checks, failures);

@@ -254,6 +254,50 @@ fn previews_as_png() {
     assert!(png.windows(row.len()).any(|window| window == row));
 }
 
+/// Rule 10.8, as people write numbers.
+#[test]
+fn converts_tints() {
+    let folder = folder("tints");
+    for (words, pixel) in [
+        (["--code", "0,128,255"], "1536 2560 3576\n"),
+        (["--nonlinear", "0,1,1.25"], "1536 3576 4086\n"),
+        (["--nonlinear", "-1, 1e308, -0"], "0 4095 1536\n"),
+        (["--light", "0.00313,3.131e-3,-1e308"], "1618 1619 0\n"),
+    ] {
+        let tinted = kiosk(&folder, &["tint", words[0], words[1]]);
+        assert_eq!(text(&tinted.stdout), pixel, "{words:?}");
+        assert!(tinted.status.success());
+        assert!(tinted.stderr.is_empty());
+    }
+    for (words, channel) in [
+        (["--nonlinear", "nan,0,0"], "channel 0, red"),
+        (["--nonlinear", "1,-inf,NaN"], "channel 1, green"),
+        (["--light", "1,1,infinity"], "channel 2, blue"),
+        // No double is near to it but an infinity.
+        (["--light", "0,1e400,0"], "channel 1, green"),
+    ] {
+        let error = format!(
+            "kiosk: {} {}: refusal 17: a channel of the tint is infinite or not a number ({channel})\n",
+            words[0], words[1]
+        );
+        fails(&folder, &["tint", words[0], words[1]], 1, &error);
+    }
+    let wrong = |words: &[&str], error| fails(&folder, &[&["tint"], words].concat(), 2, error);
+    let one_of = "tint wants one of --code, --nonlinear, --light";
+    wrong(&[], one_of);
+    wrong(&["--code", "1,2,3", "--light", "1,2,3"], one_of);
+    wrong(&["1,2,3"], "tint wants other words");
+    wrong(&["--code"], "--code wants a value");
+    wrong(&["--code", "1,2,3", "--raw"], "no option --raw");
+    let value = |value, error| wrong(&["--code", value], error);
+    value("1,2", "--code 1,2: 2 numbers, where a tint has three");
+    value("1,2,3,4", "4 numbers");
+    value("1,2,256", "\"256\" is not a whole number from 0 to 255");
+    value("1,-2,3", "\"-2\" is not");
+    value("", "\"\" is not");
+    wrong(&["--light", "1,red,3"], "\"red\" is not a number");
+}
+
 /// Runs words that must fail: with this status, an error that holds these words, and no file written.
 fn fails(folder: &Path, words: &[&str], status: i32, error: &str) {
     let before = fs::read_dir(folder).expect("the folder").count();

@@ -1,4 +1,4 @@
-//! The kiosk command: lists, converts, compares and previews the frames of a spool file.
+//! The kiosk command: lists, converts, compares and previews the frames of a spool file, and converts tints.
 
 #![forbid(unsafe_code)]
 
@@ -6,6 +6,7 @@ mod compare;
 mod form;
 mod output;
 mod png;
+mod tint;
 
 use form::{Form, Target};
 use kiosk::{Fault, Frame, Refusal};
@@ -21,6 +22,7 @@ usage: kiosk list FILE
        kiosk convert FILE FRAME --to FORM --out FILE [--raw]
        kiosk compare FILE FRAME
        kiosk preview FILE FRAME --out FILE.png
+       kiosk tint --code R,G,B | --nonlinear R,G,B | --light R,G,B
 
 list      prints a heading and a line for each frame of a spool file, or a line
           with `refused` and a number, and why on standard error. A file of more
@@ -33,6 +35,10 @@ compare   takes the frame through luma and chroma and back, an sRGB frame at eac
           depth, and says how many channels come back equal, one less or one
           more, also at 8 bits
 preview   writes the frame as an 8-bit PNG picture
+tint      prints a colour as a pixel of 12-bit e-sRGB: three codes from 0 to 4095.
+          Codes of 8-bit sRGB are from 0 to 255. Nonlinear numbers have black at 0
+          and white at 1, light has reference white at 1, and both may be any
+          finite number: what a code cannot hold is clipped
 
 Frames count from 0. The exit status is 0, 1 where something is refused or
 cannot be read or written, and 2 for a wrong command line.
@@ -75,7 +81,14 @@ fn main() -> ExitCode {
 }
 
 /// The options, and whether each has a value.
-const OPTIONS: [(&str, bool); 3] = [("--to", true), ("--out", true), ("--raw", false)];
+const OPTIONS: [(&str, bool); 6] = [
+    ("--to", true),
+    ("--out", true),
+    ("--raw", false),
+    ("--code", true),
+    ("--nonlinear", true),
+    ("--light", true),
+];
 
 /// A command's words, sorted.
 struct Words<'a> {
@@ -152,10 +165,20 @@ fn run(words: &[OsString]) -> Result<(), Failure> {
             let raw = words.options.contains_key("--raw");
             convert(Path::new(file), number(frame)?, target, raw, words.out()?)
         }
-        (Some("list" | "compare" | "preview" | "convert"), _) => Err(Failure::usage(format!(
-            "{} wants other words",
-            command.display()
-        ))),
+        (Some("tint"), []) => {
+            words.only(&tint::OPTIONS)?;
+            let mut given = words.options.iter();
+            match (given.next(), given.next()) {
+                (Some((option, value)), None) => tint(option, value),
+                _ => Err(Failure::usage(format!(
+                    "tint wants one of {}",
+                    tint::OPTIONS.join(", ")
+                ))),
+            }
+        }
+        (Some("list" | "compare" | "preview" | "convert" | "tint"), _) => Err(Failure::usage(
+            format!("{} wants other words", command.display()),
+        )),
         _ => Err(Failure::usage(format!(
             "unknown command {}",
             command.display()
@@ -270,4 +293,13 @@ fn preview(path: &Path, number: usize, out: &Path) -> Result<(), Failure> {
         .map_err(|refusal| Failure::about(&place, refusal))?;
     let picture = png::encoded(frame.record.width, frame.record.height, &pixels);
     output::write(out, &picture).map_err(|error| Failure::about(out, error))
+}
+
+fn tint(option: &str, value: &OsStr) -> Result<(), Failure> {
+    let given = PathBuf::from(format!("{option} {}", value.display()));
+    let tint = tint::parsed(option, &value.to_string_lossy())
+        .map_err(|wrong| Failure::usage(format!("{}: {wrong}", given.display())))?;
+    let [red, green, blue] =
+        kiosk::tint_to_pixel(tint).map_err(|refusal| Failure::about(&given, refusal))?;
+    print(&format!("{red} {green} {blue}\n"))
 }

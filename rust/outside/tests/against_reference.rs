@@ -11,7 +11,7 @@ use std::time::Instant;
 /// A part of the tests: what it compares, and the function that gives how many.
 type Part = (&'static str, fn() -> u64);
 
-const PARTS: [Part; 12] = [
+const PARTS: [Part; 15] = [
     (
         "samples: every code of every depth",
         parts::pictures::every_sample,
@@ -48,6 +48,18 @@ const PARTS: [Part; 12] = [
     (
         "calls of light with faults and wrong lengths",
         parts::light::refusals,
+    ),
+    (
+        "tints: every code and halfway point, with neighbours",
+        parts::tints::every_code,
+    ),
+    (
+        "tints: the ends of the doubles, and what is not finite",
+        parts::tints::ends,
+    ),
+    (
+        "tints: any bits, and doubles near the codes",
+        parts::tints::any_bits,
     ),
     (
         "spools laid out, found, walked, listed, damaged and cut",

@@ -9,6 +9,7 @@ pub mod buffers;
 pub mod light;
 pub mod samples;
 pub mod spool;
+pub mod tints;
 
 /// Why an operation refuses: the number (rule 8), and the place where it has one.
 #[derive(Clone, Copy, Debug, PartialEq, Eq)]

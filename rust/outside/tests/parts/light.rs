@@ -3,8 +3,27 @@
 use outside::{by_both, guarded, Random};
 use reference::{buffers, light, samples};
 use std::collections::BTreeSet;
+use std::sync::LazyLock;
 
 const DEPTHS: [u32; 2] = [10, 12];
+
+/// The greatest light whose code the reference works out beforehand.
+const TOP: i32 = 2_100_000;
+
+/// The reference's codes of 0, 1, .. and of 0, -1, ..
+type Around = (Vec<i64>, Vec<i64>);
+
+static AT_TWELVE: LazyLock<Around> = LazyLock::new(|| light::codes_around_zero(12, TOP as u32));
+
+fn code_in((up, down): &Around, q: i32) -> i64 {
+    let side = if q < 0 { down } else { up };
+    side[q.unsigned_abs() as usize]
+}
+
+/// The 12-bit code of a light from -[`TOP`] to [`TOP`], by the reference.
+pub fn codes_at_twelve(q: i32) -> i64 {
+    code_in(&AT_TWELVE, q)
+}
 
 fn codes_of(lights: &[i32], depth: u32) -> Vec<u16> {
     let before = vec![0x5a; 2 * lights.len()];
@@ -41,18 +60,19 @@ pub fn every_code() -> u64 {
 
 /// Every light of a wide range, and random ones of all 32 bits, to codes.
 pub fn every_light() -> u64 {
-    const TOP: i32 = 2_100_000;
     let mut count = 0;
-    for depth in DEPTHS {
-        let (up, down) = light::codes_around_zero(depth, TOP as u32);
+    let at_ten = light::codes_around_zero(10, TOP as u32);
+    for (depth, around) in [(10, &at_ten), (12, &*AT_TWELVE)] {
         let mut lights: Vec<i32> = (-TOP..=TOP).collect();
         while !lights.len().is_multiple_of(3) {
             lights.push(0);
         }
         for (&q, code) in lights.iter().zip(codes_of(&lights, depth)) {
-            let side = if q < 0 { &down } else { &up };
-            let expected = side[q.unsigned_abs() as usize];
-            assert_eq!(i64::from(code), expected, "light {q} at {depth} bits");
+            assert_eq!(
+                i64::from(code),
+                code_in(around, q),
+                "light {q} at {depth} bits"
+            );
             count += 1;
         }
         let mut random = Random::new(3);

@@ -1,3 +1,4 @@
 pub mod light;
 pub mod pictures;
 pub mod spools;
+pub mod tints;

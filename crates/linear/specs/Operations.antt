@@ -9,7 +9,7 @@ use Rattle.refusal.specs.Refusals.{numberOf}
 use Rattle.refusal.specs.Answers.{Said, accepted}
 use Rattle.samples.specs.declared.Coding.the-variants.{Codes}
 use Rattle.samples.specs.declared.Pixel.{Pixel}
-use Rattle.samples.specs.Samples.{twoByTwo, bytesOf}
+use Rattle.samples.specs.Samples.{pixel, twoByTwo, bytesOf}
 use Rattle.samples.specs.Faults.{inOrder, sourceSays}
 use Rattle.esrgb.specs.Depths.{greatest}
 use Rattle.transfer.specs.Light.{offersLight, lightOfCode}
@@ -60,4 +60,4 @@ codeSaid (code-found.Refused r) = refuses (numberOf r)
 
 -- Three lights as a pixel of 12-bit codes.
 abbrev pub pixelOfLight : ℤ → ℤ → ℤ → Pixel
-pixelOfLight red green blue = record { first = codeOfLight 12 red; second = codeOfLight 12 green; third = codeOfLight 12 blue }
+pixelOfLight red green blue = pixel (codeOfLight 12 red) (codeOfLight 12 green) (codeOfLight 12 blue)

@@ -8,6 +8,7 @@ use lib.Ieee.Scale.{finite}
 use Rattle.numbers.specs.Doubles.{nearestWhole}
 use Rattle.refusal.specs.Refusals.{numberOf}
 use Rattle.samples.specs.declared.Pixel.{Pixel}
+use Rattle.samples.specs.Samples.{pixel}
 use Rattle.esrgb.specs.Depths.{greatest, offset}
 use Rattle.esrgb.specs.Codes.{fromSrgb}
 use Rattle.transfer.specs.Light.{scale}
@@ -32,25 +33,25 @@ times x n = mul binary64 x (ofInt binary64 (pos n))
 abbrev pub plus : Float → ℕ → Float
 plus x n = add binary64 x (ofInt binary64 (pos n))
 
--- Rule 11.4: a nonlinear number times the scale, which is 2,040, plus the offset, which is 1,536; the nearest whole number, ties upward,
--- clipped to 0..4,095. It is not negative, so natAbs only makes it a number of ℕ.
+-- Rule 11.4: S times a nonlinear number and the offset on top, as the nearest of the codes, ties upward. It is not negative, so that
+-- natAbs only makes it a number of ℕ.
 unfoldable pub nonlinearCode : Float → ℕ
 nonlinearCode x = natAbs (nearestWhole 0 (greatest 12) (plus (times x (scale 12)) (offset 12)))
 
--- Rule 11.5: light times 1,000,000; the nearest whole number, ties upward, clipped to −2,000,000..2,000,000.
+-- Rule 11.5: a number of light in whole millionths, ties upward, with a limit on either side.
 abbrev pub lightLimit : ℕ
 lightLimit = 2000000
 
 unfoldable pub lightNumber : Float → ℤ
 lightNumber x = nearestWhole lightLimit lightLimit (times x (10 ^ 6))
 
--- The pixel of a tint: rule 11.2 by the rule from sRGB, 11.4, and 11.5 by the rule from light to code.
+-- The pixel of a tint: by rule 1.6 for 8-bit values (11.2), by 11.4, and by 11.5 and 6.3.
 abbrev pub tintPixel : Tint → Pixel
-tintPixel (Code red green blue) = record { first = fromSrgb 12 red; second = fromSrgb 12 green; third = fromSrgb 12 blue }
-tintPixel (Nonlinear c) = record { first = nonlinearCode (c .red); second = nonlinearCode (c .green); third = nonlinearCode (c .blue) }
+tintPixel (Code red green blue) = pixel (fromSrgb 12 red) (fromSrgb 12 green) (fromSrgb 12 blue)
+tintPixel (Nonlinear c) = pixel (nonlinearCode (c .red)) (nonlinearCode (c .green)) (nonlinearCode (c .blue))
 tintPixel (Light c) = pixelOfLight (lightNumber (c .red)) (lightNumber (c .green)) (lightNumber (c .blue))
 
--- Rule 11.6: the first channel that is infinite or not a number. 8-bit codes have none.
+-- Rule 11.6: the first channel that is not finite. 8-bit values have none.
 abbrev pub firstFault : Channels → ChannelFault
 firstFault c =
     cond (not (finite (c .red))) (At 0)

@@ -4,6 +4,8 @@
  */
 #include "plain.h"
 
+#include <math.h>
+
 enum {
     NOT_OFFERED = -9,
     NOT_WHOLE_SAMPLES = -10,
@@ -210,6 +212,21 @@ int64_t plain_code_to_light(uint32_t depth, const uint8_t *src, size_t src_len, 
     return (int64_t)(src_len / 6);
 }
 
+/* The code of a light, clipped: its level is the last whose threshold it reaches. */
+static uint32_t code_of_light(const uint32_t *thresholds, uint32_t levels, uint32_t offset, int32_t light)
+{
+    uint32_t q = light < 0 ? 0u - (uint32_t)light : (uint32_t)light;
+    uint32_t low = 0, high = levels;
+    while (high - low > 1) {
+        uint32_t middle = low + (high - low) / 2;
+        if (thresholds[middle] <= q)
+            low = middle;
+        else
+            high = middle;
+    }
+    return light >= 0 ? offset + low : low < offset ? offset - low : 0;
+}
+
 int64_t plain_light_to_code(uint32_t depth, const int32_t *src, size_t src_len, uint8_t *dst,
                             size_t dst_len)
 {
@@ -218,17 +235,63 @@ int64_t plain_light_to_code(uint32_t depth, const int32_t *src, size_t src_len, 
         return fault;
     const uint32_t *thresholds = depth == 10 ? thresholds10 : thresholds12;
     uint32_t levels = depth == 10 ? 640 : 2560, offset = depth == 10 ? 384 : 1536;
-    for (size_t k = 0; k < src_len; k++) {
-        uint32_t q = src[k] < 0 ? 0u - (uint32_t)src[k] : (uint32_t)src[k];
-        uint32_t low = 0, high = levels;
-        while (high - low > 1) {
-            uint32_t middle = low + (high - low) / 2;
-            if (thresholds[middle] <= q)
-                low = middle;
-            else
-                high = middle;
-        }
-        put(dst, k, src[k] >= 0 ? offset + low : low < offset ? offset - low : 0);
-    }
+    for (size_t k = 0; k < src_len; k++)
+        put(dst, k, code_of_light(thresholds, levels, offset, src[k]));
     return (int64_t)(src_len / 3);
+}
+
+int64_t plain_tint_code(uint8_t red, uint8_t green, uint8_t blue, uint16_t pixel[3])
+{
+    const uint8_t values[3] = {red, green, blue};
+    for (size_t k = 0; k < 3; k++)
+        pixel[k] = (uint16_t)(8 * values[k] + 1536);
+    return 1;
+}
+
+/* 0, or a refusal if a channel is infinite or not a number. */
+static int64_t check_channels(const double channels[3], size_t *place)
+{
+    for (size_t k = 0; k < 3; k++)
+        if (!isfinite(channels[k])) {
+            *place = k;
+            return -17;
+        }
+    return 0;
+}
+
+/* To the nearest whole number, ties upward, clipped. */
+static int32_t nearest_within(double x, int32_t low, int32_t high)
+{
+    if (x <= low)
+        return low;
+    if (x >= high)
+        return high;
+    int32_t whole = (int32_t)x;
+    if (x < whole)
+        whole--;
+    return x - whole >= 0.5 ? whole + 1 : whole;
+}
+
+int64_t plain_tint_nonlinear(double red, double green, double blue, uint16_t pixel[3], size_t *place)
+{
+    const double channels[3] = {red, green, blue};
+    int64_t fault = check_channels(channels, place);
+    if (fault < 0)
+        return fault;
+    for (size_t k = 0; k < 3; k++)
+        pixel[k] = (uint16_t)nearest_within(channels[k] * 2040.0 + 1536.0, 0, 4095);
+    return 1;
+}
+
+int64_t plain_tint_light(double red, double green, double blue, uint16_t pixel[3], size_t *place)
+{
+    const double channels[3] = {red, green, blue};
+    int64_t fault = check_channels(channels, place);
+    if (fault < 0)
+        return fault;
+    for (size_t k = 0; k < 3; k++) {
+        int32_t light = nearest_within(channels[k] * 1000000.0, -2000000, 2000000);
+        pixel[k] = (uint16_t)code_of_light(thresholds12, 2560, 1536, light);
+    }
+    return 1;
 }

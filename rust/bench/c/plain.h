@@ -20,6 +20,11 @@ int64_t plain_code_to_light(uint32_t depth, const uint8_t *src, size_t src_len, 
 int64_t plain_light_to_code(uint32_t depth, const int32_t *src, size_t src_len, uint8_t *dst,
                             size_t dst_len);
 
+/* Tints: the answer is 1, and `place` the channel at fault. */
+int64_t plain_tint_code(uint8_t red, uint8_t green, uint8_t blue, uint16_t pixel[3]);
+int64_t plain_tint_nonlinear(double red, double green, double blue, uint16_t pixel[3], size_t *place);
+int64_t plain_tint_light(double red, double green, double blue, uint16_t pixel[3], size_t *place);
+
 /* The light of each 12-bit level (2,560 numbers), and the least light of each level at 10 bits (640) and 12. */
 void plain_set_tables(const uint32_t *light, const uint32_t *ten, const uint32_t *twelve);
 

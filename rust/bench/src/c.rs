@@ -2,7 +2,7 @@
 
 #![allow(unsafe_code)]
 
-use kiosk::Conversion;
+use kiosk::{Conversion, Tint};
 
 /// Declares a version's conversions, and makes a Convert of them.
 macro_rules! convert_by {
@@ -71,6 +71,16 @@ extern "C" {
         dst_len: usize,
         place: *mut usize,
     ) -> i64;
+    fn plain_tint_code(red: u8, green: u8, blue: u8, pixel: *mut u16) -> i64;
+    fn plain_tint_nonlinear(
+        red: f64,
+        green: f64,
+        blue: f64,
+        pixel: *mut u16,
+        place: *mut usize,
+    ) -> i64;
+    fn plain_tint_light(red: f64, green: f64, blue: f64, pixel: *mut u16, place: *mut usize)
+        -> i64;
     fn plain_light_to_code(
         depth: u32,
         src: *const i32,
@@ -99,4 +109,19 @@ pub fn light_to_code(depth: u32, src: &[i32], dst: &mut [u8]) -> i64 {
     let (s, n, d, m) = (src.as_ptr(), src.len(), dst.as_mut_ptr(), dst.len());
     // SAFETY: the pointers and lengths are those of two slices that do not overlap.
     unsafe { plain_light_to_code(depth, s, n, d, m) }
+}
+
+/// A tint in plain C.
+pub fn tint(tint: Tint, pixel: &mut [u16; 3]) -> i64 {
+    let (p, mut place) = (pixel.as_mut_ptr(), 0);
+    // SAFETY: the pointers are those of three numbers and of a local.
+    unsafe {
+        match tint {
+            Tint::Code([red, green, blue]) => plain_tint_code(red, green, blue, p),
+            Tint::Nonlinear([red, green, blue]) => {
+                plain_tint_nonlinear(red, green, blue, p, &mut place)
+            }
+            Tint::Light([red, green, blue]) => plain_tint_light(red, green, blue, p, &mut place),
+        }
+    }
 }

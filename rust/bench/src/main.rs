@@ -7,7 +7,7 @@ mod buffer;
 mod c;
 
 use buffer::Buffer;
-use kiosk::Conversion;
+use kiosk::{Conversion, Tint};
 use std::hint::black_box;
 use std::num::NonZeroUsize;
 use std::time::Instant;
@@ -198,6 +198,32 @@ fn time_light_to_code(depth: u32, pixels: usize) -> Times {
     Times::of(pixels, 6 * pixels, &[&library, &plain])
 }
 
+/// The photograph's pixels as tints of a kind, which its values divided by 255 are made to.
+fn tints(kind: fn([f64; 3]) -> Tint, pixels: usize) -> Vec<Tint> {
+    photograph(pixels)
+        .chunks_exact(3)
+        .map(|p| kind([p[0], p[1], p[2]].map(|value| f64::from(value) / 255.0)))
+        .collect()
+}
+
+/// Tints one by one, a call each.
+fn time_tints(tints: &[Tint]) -> Times {
+    let by = |convert: fn(Tint, &mut [u16; 3]) -> i64| {
+        move |dst: &mut [u16]| {
+            let pixels = dst.chunks_exact_mut(3).map(TryFrom::try_from);
+            let pairs = tints.iter().zip(pixels);
+            pairs
+                .map(|(&tint, pixel)| convert(tint, pixel.expect("three codes")))
+                .sum()
+        }
+    };
+    let library = by(|tint, pixel| {
+        *pixel = kiosk::tint_to_pixel(tint).expect("a finite tint is converted");
+        1
+    });
+    Times::of(tints.len(), 3 * tints.len(), &[&library, &by(c::tint)])
+}
+
 /// The tables that plain C searches, read off the library: it is plain C's loops that are timed.
 fn set_tables() {
     let codes: Vec<u8> = (1536..4096u16)
@@ -237,7 +263,12 @@ enum Call {
     BackFromAny(u32),
     CodeToLight(u32),
     LightToCode(u32),
+    /// Tints of a kind, which red, green and blue from 0 to 1 are made to.
+    Tint(fn([f64; 3]) -> Tint),
 }
+
+/// The most nanoseconds that a tint may take.
+const TINT_LIMIT: f64 = 1000.0;
 
 /// What is timed, and the goal if there is one: how long it may take, in times of the better C.
 struct Operation {
@@ -258,7 +289,18 @@ impl Operation {
             }
             Call::CodeToLight(depth) => time_code_to_light(depth, pixels),
             Call::LightToCode(depth) => time_light_to_code(depth, pixels),
+            Call::Tint(kind) => time_tints(&tints(kind, pixels)),
         }
+    }
+
+    /// Tints are timed at one size: each is a call of its own, so that their number changes nothing.
+    fn is_timed_at(&self, pixels: usize) -> bool {
+        !matches!(self.call, Call::Tint(_)) || pixels <= SIZES[0]
+    }
+
+    fn is_missed(&self, times: &Times) -> bool {
+        let slow = matches!(self.call, Call::Tint(_)) && TINT_LIMIT <= times.library;
+        slow || self.goal.is_some_and(|goal| goal < times.ratio())
     }
 }
 
@@ -319,6 +361,15 @@ fn operations() -> Vec<Operation> {
         let name = format!("light to code {depth}");
         all.push(operation(name, Some(1.2), Call::LightToCode(depth)));
     }
+    let code = |channels: [f64; 3]| Tint::Code(channels.map(|x| (255.0 * x) as u8));
+    all.push(operation("tint of codes".into(), None, Call::Tint(code)));
+    let nonlinear = Call::Tint(Tint::Nonlinear);
+    all.push(operation("tint, nonlinear".into(), None, nonlinear));
+    all.push(operation(
+        "tint of light".into(),
+        None,
+        Call::Tint(Tint::Light),
+    ));
     all
 }
 
@@ -345,10 +396,10 @@ fn compare(operations: &[Operation], sizes: &[usize]) {
     );
     let mut missed = Vec::new();
     for &pixels in sizes {
-        for operation in operations {
+        for operation in operations.iter().filter(|o| o.is_timed_at(pixels)) {
             let times = operation.time(pixels);
             times.print(operation, pixels);
-            if operation.goal.is_some_and(|goal| goal < times.ratio()) {
+            if operation.is_missed(&times) {
                 missed.push(format!("{} at {pixels}", operation.name));
             }
         }
@@ -423,5 +474,37 @@ mod tests {
             }
         }
         assert!(refused > 100, "only {refused} sources were refused");
+    }
+
+    /// Doubles of any bits, near the codes and halfway between them: plain C gives the library's answer and pixel.
+    #[test]
+    fn plain_c_agrees_on_tints() {
+        set_tables();
+        let mut bits = noise(usize::MAX).zip(noise(usize::MAX).skip(1));
+        let mut next = |near: bool| {
+            let (a, b) = bits.next().expect("there is always one more");
+            if near {
+                ((a % 8200) as f64 / 2.0 - 1536.0) / 2040.0
+            } else {
+                f64::from_bits(a << 48 ^ b)
+            }
+        };
+        let mut refused = 0;
+        for turn in 0..300_000 {
+            let channels = [next(turn % 2 == 0), next(turn % 3 == 0), next(true)];
+            let code = Tint::Code(channels.map(|x| x as u8));
+            for tint in [Tint::Nonlinear(channels), Tint::Light(channels), code] {
+                let found = kiosk::tint_to_pixel(tint);
+                let mut pixel = [7; 3];
+                let answer = c::tint(tint, &mut pixel);
+                refused += usize::from(found.is_err());
+                let expected = found.map_or_else(
+                    |refusal| (-i64::from(refusal.fault.number()), [7; 3]),
+                    |codes| (1, codes),
+                );
+                assert_eq!((answer, pixel), expected, "{tint:?}");
+            }
+        }
+        assert!(refused > 100, "only {refused} tints were refused");
     }
 }

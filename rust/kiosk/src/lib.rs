@@ -126,8 +126,8 @@ pub enum Tint {
     Light([f64; 3]),
 }
 
-/// Converts a tint to a pixel of 12-bit e-sRGB codes, clipping. A channel that is infinite or not a number is refused,
-/// and the place is the first such channel, 0 to 2.
+/// Converts a tint to a pixel of 12-bit e-sRGB codes, clipping. Infinities, and what is not a number, are refused; the
+/// place is that of the first channel at fault, 0 to 2.
 pub fn tint_to_pixel(tint: Tint) -> Result<[u16; 3], Refusal> {
     let mut pixel = [0; 3];
     match tint {

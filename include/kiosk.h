@@ -1,5 +1,5 @@
 /*
- * kiosk.h: colour pictures and spool files for photo kiosks, from the proved library.
+ * kiosk.h: colour pictures, tints and spool files for photo kiosks, from the proved library.
  *
  * Link with libkiosk.a, which `rt staticlib kiosk` writes to target/staticlib/. x86-64 Linux only.
  * Rules are cited by their numbers in docs/RULES.md.
@@ -128,9 +128,9 @@ int64_t kiosk_light_to_code(uint32_t depth, const int32_t *src, size_t src_len,
                             uint8_t *dst, size_t dst_len);
 
 /* ---- Tints (rule 11): a colour of three channels as one pixel of 12-bit e-sRGB, three codes in `pixel`.
- * Those of doubles give the pixel count, which is 1, or refuse with 17 if a channel is infinite or not a
- * number; then `pixel` stays as it was, and the place is the first such channel: 0 red, 1 green, 2 blue.
- * Anything else is a number, also -0.0 and what is too small or too great for a code, which is clipped. ---- */
+ * Those of doubles give the pixel count, which is 1, or refuse with 17 if a channel is infinite or is not
+ * a number; then `pixel` stays as it was, and the place is the first such channel: 0 red, 1 green, 2 blue.
+ * Every other double is converted, and clipped to the codes. ---- */
 
 /* A tint of 8-bit sRGB values. It is never refused. */
 void kiosk_tint_code(uint8_t red, uint8_t green, uint8_t blue, uint16_t pixel[3]);

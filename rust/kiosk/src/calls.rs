@@ -30,6 +30,26 @@ mod c {
 
     conversions! { kiosk_from_srgb kiosk_to_srgb kiosk_to_luma_chroma kiosk_from_luma_chroma }
 
+    /// A tint of doubles.
+    pub type Tint = unsafe extern "C" fn(f64, f64, f64, *mut [u16; 3], *mut usize) -> i64;
+
+    /// Declares tints of doubles, each as in include/kiosk.h.
+    macro_rules! tints {
+        ($($name:ident)*) => {
+            extern "C" {
+                $(pub fn $name(
+                    red: f64,
+                    green: f64,
+                    blue: f64,
+                    pixel: *mut [u16; 3],
+                    place: *mut usize,
+                ) -> i64;)*
+            }
+        };
+    }
+
+    tints! { kiosk_tint_nonlinear kiosk_tint_light }
+
     // As in include/kiosk.h.
     extern "C" {
         pub fn kiosk_change_depth(
@@ -86,20 +106,6 @@ mod c {
             dst_len: usize,
         ) -> i64;
         pub fn kiosk_tint_code(red: u8, green: u8, blue: u8, pixel: *mut [u16; 3]);
-        pub fn kiosk_tint_nonlinear(
-            red: f64,
-            green: f64,
-            blue: f64,
-            pixel: *mut [u16; 3],
-            place: *mut usize,
-        ) -> i64;
-        pub fn kiosk_tint_light(
-            red: f64,
-            green: f64,
-            blue: f64,
-            pixel: *mut [u16; 3],
-            place: *mut usize,
-        ) -> i64;
         pub fn kiosk_open(file: *const u8, file_len: usize, shop: *mut u16, table: *mut u32)
             -> i64;
         pub fn kiosk_find(
@@ -262,14 +268,17 @@ pub fn tint_code([red, green, blue]: [u8; 3], pixel: &mut [u16; 3]) {
     unsafe { c::kiosk_tint_code(red, green, blue, pixel) }
 }
 
-pub fn tint_nonlinear([red, green, blue]: [f64; 3], pixel: &mut [u16; 3]) -> Given {
+fn tint(call: c::Tint, [red, green, blue]: [f64; 3], pixel: &mut [u16; 3]) -> Given {
     // SAFETY: the pointers are those of three numbers and of a local.
-    placed(|place| unsafe { c::kiosk_tint_nonlinear(red, green, blue, pixel, place) })
+    placed(|place| unsafe { call(red, green, blue, pixel, place) })
 }
 
-pub fn tint_light([red, green, blue]: [f64; 3], pixel: &mut [u16; 3]) -> Given {
-    // SAFETY: as of `tint_nonlinear`.
-    placed(|place| unsafe { c::kiosk_tint_light(red, green, blue, pixel, place) })
+pub fn tint_nonlinear(channels: [f64; 3], pixel: &mut [u16; 3]) -> Given {
+    tint(c::kiosk_tint_nonlinear, channels, pixel)
+}
+
+pub fn tint_light(channels: [f64; 3], pixel: &mut [u16; 3]) -> Given {
+    tint(c::kiosk_tint_light, channels, pixel)
 }
 
 /// The frame count or a refusal, the shop and the table offset.

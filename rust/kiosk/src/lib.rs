@@ -1,6 +1,6 @@
-//! Colour pictures and spool files for photo kiosks: a safe wrapper of the proved library. Buffers are
-//! slices, an answer is a `Result`, and a refused conversion leaves its destination as it was. Numbers of
-//! rules are those of docs/RULES.md.
+//! Colour pictures, tints and spool files for photo kiosks: a safe wrapper of the proved library. Buffers
+//! are slices, an answer is a `Result`, and a refused conversion leaves its destination as it was. Numbers
+//! of rules are those of docs/RULES.md.
 
 #![deny(unsafe_code)]
 

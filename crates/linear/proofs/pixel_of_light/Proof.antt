@@ -1,8 +1,5 @@
 -- `linear::pixel_of_light` meets its contract: the code of each light, from the same tables.
 -- Assumes nothing.
-use Prim.Native.Nat.{ℕ}
-use mathlib.Core.Path.{_≡_, ap, _∙_}
-use Rattle.transfer.specs.Level.{codeOfLight}
 use Rattle.linear.proofs.Sign.{read}
 use borrow.Author.Needs.{needs}
 use Rattle.linear.proofs.pixel_of_light.Statement.{statement}
@@ -37,10 +34,14 @@ returns c =
     let two = c .before .before .before in
     let one = two .before .before .before in
     let fits = one .before .before .before .before .before .fits in
-    let red = one .code-of .ensures ∙ ap (codeOfLight 12) (read _ (fits .red)) in
-    let green = two .code-of2 .ensures ∙ ap (codeOfLight 12) (read _ (fits .green)) in
-    let blue = c .code-of3 .ensures ∙ ap (codeOfLight 12) (read _ (fits .blue)) in
-    cc (red, green, blue)
+    cc (
+      one .code-of .ensures,
+      read _ (fits .red),
+      two .code-of2 .ensures,
+      read _ (fits .green),
+      c .code-of3 .ensures,
+      read _ (fits .blue),
+    )
 
 pub pixel-of-light-spec : {M : Type 1} → statement M
 pixel-of-light-spec =

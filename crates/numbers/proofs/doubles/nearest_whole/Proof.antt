@@ -3,9 +3,12 @@
 use mathlib.Core.Path.{_≡_, ap, _∙_}
 use Prim.Native.Nat.{ℕ, _<_, _^_}
 use lib.IntN.{pos, negℤ}
+use lib.Ieee.{neg}
 use mir.Syntax.{w64}
 use mir.ValLaws.{toZ-pos}
 use borrow.Author.Needs.{needs}
+use Rattle.numbers.specs.HowWhole.{nearestSize}
+use Rattle.numbers.specs.declared.doubles.Ties.the-variants.{Up, Down}
 use Rattle.numbers.proofs.Sign.{opposite-fits, opposite-is}
 use Rattle.numbers.proofs.Whole.{of-negative, of-other}
 use Rattle.numbers.proofs.doubles.nearest_whole.Statement.{statement}
@@ -31,12 +34,17 @@ cast-result-2 c = search needs
 
 returns : tie.Need-returns
 returns c =
+    let a = c .before .before .args in
+    let size : c .nearest-size .result ≡ nearestSize Down (a .below) (neg (a .x)) = cc (c .nearest-size .ensures) in
     opposite-is w64 (c .nearest-size .result) (small c)
-    ∙ ap (λ (n : ℕ). negℤ (pos n)) (c .nearest-size .ensures)
-    ∙ of-negative _ _ _ (c .before .if1 .taken)
+    ∙ ap (λ (n : ℕ). negℤ (pos n)) size
+    ∙ of-negative (a .below) (a .above) (a .x) (cc (c .before .if1 .taken))
 
 returns-2 : tie.Need-returns-2
-returns-2 c = toZ-pos w64 (c .nearest-size2 .result) (search needs) ∙ ap pos (c .nearest-size2 .ensures) ∙ of-other _ _ _ (c .before .if1 .left)
+returns-2 c =
+    let a = c .before .before .args in
+    let size : c .nearest-size2 .result ≡ nearestSize Up (a .above) (a .x) = cc (c .nearest-size2 .ensures) in
+    toZ-pos w64 (c .nearest-size2 .result) (search needs) ∙ ap pos size ∙ of-other (a .below) (a .above) (a .x) (cc (c .before .if1 .left))
 
 pub nearest-whole-spec : {M : Type 1} → statement M
 nearest-whole-spec =

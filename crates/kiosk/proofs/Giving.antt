@@ -5,14 +5,18 @@ use mathlib.Core.Path.{_≡_, refl, ap, _∙_}
 use mathlib.Core.List.{List}
 use lib.IntN.{ℤ, pos}
 use lib.ListN.{length}
+use mir.Syntax.{w64}
+use mir.Val.{SFits, toZ, ofZ}
+use mir.ValLaws.{toZ-ofZ}
 use Rattle.refusal.specs.Answers.{Said, leaves}
 use Rattle.picture.specs.declared.Conversion.{Conversion}
 use Rattle.picture.specs.Convert.{convertSays, convertBytes}
 use Rattle.samples.specs.declared.Pixel.{Pixel}
 use Rattle.tint.specs.declared.Tint.{Tint}
+use Rattle.tint.specs.declared.Tint.the-variants.{Code}
 use Rattle.tint.specs.Tints as tint
 use Rattle.tint.specs.Tints.{TintSaid, refusesAt, tintPixel, tintSays}
-use Rattle.tint.proofs.Meaning.{pixel-given}
+use Rattle.tint.proofs.Meaning.{pixel-given, code-given}
 use Rattle.kiosk.specs.Interface.{minus, answerOf, placeOf, Gives, Converts, answerOfOne, samplesOfOne, Tints}
 
 pub gives : {A : Type 0} (new dst : List A) (place : ℕ) {s says : Said} {r : ℤ} {dst′ : List A} {place′ : ℕ}
@@ -25,6 +29,11 @@ pub converts : (c : Conversion) (src dst : List ℕ) (place : ℕ) {s : Said} {r
     → Converts c src r dst dst′ place place′
 converts c src dst place e content answer at = gives _ dst place e content answer at
 
+-- An answer that is handed on, in 64 bits.
+pub handed-on : {A : Type 0} {says : Said} {new dst dst′ : List A} {place place′ : ℕ} (r : ℤ)
+    → SFits w64 r → Gives says new r dst dst′ place place′ → Gives says new (toZ w64 (ofZ w64 r)) dst dst′ place place′
+handed-on r f g = record { answer = toZ-ofZ w64 r f ∙ g .answer; content = g .content; at = g .at }
+
 -- The same of a tint.
 module _ (t : Tint) (dst : List ℕ) (place : ℕ) where
   pub tints-given : (p : Pixel) → tint.gives p ≡ tintSays t → Tints t (pos 1) dst (samplesOfOne p) place place
@@ -36,3 +45,9 @@ module _ (t : Tint) (dst : List ℕ) (place : ℕ) where
   pub tints-refused : (k channel : ℕ) {r : ℤ} → refusesAt k channel ≡ tintSays t → r ≡ minus k → Tints t r dst dst place channel
   tints-refused k channel e is =
       gives _ dst place (ap answerOfOne e) (ap (λ (s : TintSaid). leaves (answerOfOne s) (samplesOfOne (tintPixel t)) dst) e) is refl
+
+-- Of 8-bit values the pixel is always given.
+pub tints-code : (red green blue : ℕ) {r : ℤ} {dst dst′ : List ℕ} {place place′ : ℕ}
+    → Tints (Code red green blue) r dst dst′ place place′ → dst′ ≡ samplesOfOne (tintPixel (Code red green blue))
+tints-code red green blue {dst = dst} g =
+    g .content ∙ ap (λ (s : TintSaid). leaves (answerOfOne s) (samplesOfOne (tintPixel (Code red green blue))) dst) (code-given red green blue)

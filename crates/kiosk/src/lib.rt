@@ -174,7 +174,7 @@ fn tinted(tint: Tint, pixel: &mut [u16; 3], place: &mut usize) -> i64
     }
 }
 
-// A tint of 8-bit codes. It is never refused.
+// A tint of 8-bit values. It is never refused.
 #[no_mangle]
 pub extern "C" fn kiosk_tint_code(red: u8, green: u8, blue: u8, pixel: &mut [u16; 3])
     ensures { λ _. ⌜ now (pixel .exit) ≡ samplesOfOne (tintPixel (Tint.Code red green blue)) ⌝ }

@@ -2,10 +2,11 @@
 -- Assumes nothing.
 use Prim.Native.Nat.{ℕ, _+_, _-_, _*_, _/_}
 
--- num / den to the nearest whole number, ties upward (rules 1.7, 2.2 and 2.5; of a size, 6.4).
+-- num / den to the nearest whole number, ties upward (rules 1.7, 2.2, 2.5, 11.4 and 11.5; of a size, 6.4).
 unfoldable pub nearest : ℕ → ℕ → ℕ
 nearest num den = (2 * num + den) / (2 * den)
 
--- num / den to the nearest whole number, ties downward: of a size, that is towards zero (rule 2.3).
+-- num / den to the nearest whole number, ties downward: of a size, that is towards zero (rule 2.3), and upward if the number is negative
+-- (11.5).
 unfoldable pub nearestDown : ℕ → ℕ → ℕ
 nearestDown num den = (2 * num + den - 1) / (2 * den)

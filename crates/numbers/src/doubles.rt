@@ -1,5 +1,6 @@
-// Doubles: whether one is finite, and the whole number nearest to it. For every double, infinite or not a
-// number too, both promise what specs/Doubles.antt says, and nothing is rounded on the way.
+// Doubles: whether one is finite, and the whole number nearest to it. Both promise it of every double, the
+// infinite ones and what is not a number too: the first is the logic's own `finite`, the second stands in
+// specs/Doubles.antt. Nothing is rounded on the way.
 ghost use mathlib.Core.Path.{_≡_};
 ghost use lib.Ieee.Scale.{finite};
 ghost use Rattle.numbers.specs.Doubles.{nearestWhole};

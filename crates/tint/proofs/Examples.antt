@@ -11,10 +11,10 @@ use Rattle.esrgb.specs.Codes.{fromSrgb}
 use Rattle.transfer.specs.Level.{levelOfLight, codeOfLight}
 use Rattle.transfer.proofs.Examples.{code-examples}
 use Rattle.tint.specs.declared.Tint.the-variants.{Code, Nonlinear, Light}
-use Rattle.tint.specs.Tints.{channels, nonlinearCode, lightNumber, gives, refusesAt, tintSays}
+use Rattle.tint.specs.Tints.{channels, nonlinearCode, lightNumber, tintPixel, tintFault, gives, refusesAt, tintSays}
 
 pub code-example : tintSays (Code 0 128 255) ≡ gives (pixel 1536 2560 3576)
-unfolding fromSrgb
+unfolding tintSays tintFault tintPixel fromSrgb
 code-example = refl
 
 -- The second line: exactly, 2,040 times the double nearest to 1 / 4,080 is a little less than 0.5. The last: numbers whose product is
@@ -23,15 +23,15 @@ pub nonlinear-examples :
     (tintSays (Nonlinear (channels (double 0 1) (double 1 1) (double 5 4))) ≡ gives (pixel 1536 3576 4086))
     × (tintSays (Nonlinear (channels (double 1 4080) (neg (double 1 4080)) (neg (double 0 1)))) ≡ gives (pixel 1537 1536 1536))
     × (tintSays (Nonlinear (channels (fin false 1 (pos 1023)) (fin true 1 (pos 1023)) (fin false 1 (negsuc 1073)))) ≡ gives (pixel 4095 0 1536))
-unfolding nonlinearCode nearestWhole nearest nearestDown ofInt div mul add neg
+unfolding tintSays tintFault tintPixel nonlinearCode nearestWhole nearest nearestDown ofInt div mul add neg
 nonlinear-examples = (refl, refl, refl)
 
 pub light-examples : tintSays (Light (channels (double 313 100000) (double 3131 1000000) (double 0 1))) ≡ gives (pixel 1618 1619 1536)
-unfolding lightNumber nearestWhole nearest nearestDown ofInt div mul levelOfLight codeOfLight
+unfolding tintSays tintFault tintPixel lightNumber nearestWhole nearest nearestDown ofInt div mul levelOfLight codeOfLight
 light-examples = cc (code-examples .1)
 
 pub refused-examples :
     (tintSays (Nonlinear (channels (double 1 1) (inf true) nan)) ≡ refusesAt 17 1)
     × (tintSays (Light (channels nan (double 1 1) (inf false))) ≡ refusesAt 17 0)
-unfolding ofInt div
+unfolding tintSays tintFault ofInt div
 refused-examples = (refl, refl)

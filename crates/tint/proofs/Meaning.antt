@@ -21,6 +21,7 @@ use Rattle.transfer.specs.HowTabled.{levels}
 use Rattle.transfer.proofs.Level.{isFrom, meets, level-from, level-rises}
 use Rattle.samples.specs.declared.Pixel.{Pixel}
 use Rattle.tint.specs.declared.Tint.{Tint}
+use Rattle.tint.specs.declared.Tint.the-variants.{Code}
 use Rattle.tint.specs.declared.ChannelFault.{ChannelFault}
 use Rattle.tint.specs.declared.ChannelFault.the-variants.{At, Nowhere}
 use Rattle.tint.specs.Tints.{times, plus, lightLimit, TintSaid, gives, refusesAt, tintPixel, tintFault, faultOr, tintSays}
@@ -129,8 +130,14 @@ pixelIn (gives p) other = p
 pixelIn (refusesAt k channel) other = other
 
 pub pixel-given : (t : Tint) (p : Pixel) → gives p ≡ tintSays t → p ≡ tintPixel t
+unfolding tintSays
 pixel-given t p e = ap (λ (s : TintSaid). pixelIn s (tintPixel t)) e ∙ by (tintFault t)
   where
     by : (f : ChannelFault) → pixelIn (faultOr f (tintPixel t)) (tintPixel t) ≡ tintPixel t
     by (At k) = refl
     by Nowhere = refl
+
+-- Rule 11.6: 8-bit values are never refused.
+pub code-given : (red green blue : ℕ) → tintSays (Code red green blue) ≡ gives (tintPixel (Code red green blue))
+unfolding tintSays tintFault
+code-given red green blue = refl

@@ -46,7 +46,7 @@ unfoldable pub lightNumber : Float → ℤ
 lightNumber x = nearestWhole lightLimit lightLimit (times x (10 ^ 6))
 
 -- The pixel of a tint: by rule 1.6 for 8-bit values (11.2), by 11.4, and by 11.5 and 6.3.
-abbrev pub tintPixel : Tint → Pixel
+unfoldable pub tintPixel : Tint → Pixel
 tintPixel (Code red green blue) = pixel (fromSrgb 12 red) (fromSrgb 12 green) (fromSrgb 12 blue)
 tintPixel (Nonlinear c) = pixel (nonlinearCode (c .red)) (nonlinearCode (c .green)) (nonlinearCode (c .blue))
 tintPixel (Light c) = pixelOfLight (lightNumber (c .red)) (lightNumber (c .green)) (lightNumber (c .blue))
@@ -59,7 +59,7 @@ firstFault c =
     (cond (not (finite (c .blue))) (At 2)
     Nowhere))
 
-abbrev pub tintFault : Tint → ChannelFault
+unfoldable pub tintFault : Tint → ChannelFault
 tintFault (Code red green blue) = Nowhere
 tintFault (Nonlinear c) = firstFault c
 tintFault (Light c) = firstFault c
@@ -77,5 +77,5 @@ abbrev pub faultOr : ChannelFault → Pixel → TintSaid
 faultOr (At k) p = refusesAt 17 k
 faultOr Nowhere p = gives p
 
-abbrev pub tintSays : Tint → TintSaid
+unfoldable pub tintSays : Tint → TintSaid
 tintSays t = faultOr (tintFault t) (tintPixel t)

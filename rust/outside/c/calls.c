@@ -187,7 +187,8 @@ static int refuses_at(size_t channel, double red, double green, double blue)
 
 static void tints(void)
 {
-    uint16_t pixel[3] = {0, 0, 0};
+    /* A pixel between two numbers that nobody may touch. */
+    uint16_t room[5] = {7, 0, 0, 0, 7}, *pixel = room + 1;
     size_t place = 77;
 
     kiosk_tint_code(0, 128, 255, pixel);
@@ -202,7 +203,7 @@ static void tints(void)
     CHECK(holds(pixel, 1618, 1619, 1536));
     CHECK(kiosk_tint_light(1.0, -DBL_MAX, DBL_MAX, pixel, &place) == 1);
     CHECK(holds(pixel, 3576, 0, 4095));
-    CHECK(place == 77);
+    CHECK(place == 77 && room[0] == 7 && room[4] == 7);
     CHECK(refuses_at(0, (double)INFINITY, 0.0, 0.0) && refuses_at(0, (double)NAN, (double)NAN, 0.0));
     CHECK(refuses_at(1, 0.0, (double)-INFINITY, (double)NAN) && refuses_at(1, DBL_MAX, (double)NAN, 0.0));
     CHECK(refuses_at(2, -0.0, DBL_MAX, (double)INFINITY) && refuses_at(2, 1.0, 1.0, (double)NAN));

@@ -47,12 +47,15 @@ pixel-of-light-requires : tie.Need-pixel-of-light-requires
 pixel-of-light-requires c κs = search needs
 
 returns : tie.Need-returns
+unfolding tintPixel
 returns c = (cc) ∙ sym (ap tintPixel (c .before .before .before .before .tint .given .1))
 
 returns-2 : tie.Need-returns-2
+unfolding tintPixel
 returns-2 c = (cc) ∙ sym (ap tintPixel (c .before .before .before .before .tint2 .given .1))
 
 returns-3 : tie.Need-returns-3
+unfolding tintPixel
 returns-3 c =
     let one = c .before .before .before in
     let red = read _ (record { sfits = one .light-number .ok }) ∙ one .light-number .ensures in

@@ -22,12 +22,15 @@ first-fault-requires-2 : tie.Need-first-fault-requires-2
 first-fault-requires-2 c κs = search needs
 
 returns : tie.Need-returns
+unfolding tintFault
 returns c = search needs
 
 returns-2 : tie.Need-returns-2
+unfolding tintFault
 returns-2 c = c .first-fault .ensures ∙ sym (ap tintFault (c .before .before .tint .given .1))
 
 returns-3 : tie.Need-returns-3
+unfolding tintFault
 returns-3 c = c .first-fault2 .ensures ∙ sym (ap tintFault (c .before .before .tint2 .given .1))
 
 pub fault-of-spec : {M : Type 1} → statement M

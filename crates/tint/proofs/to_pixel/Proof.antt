@@ -1,7 +1,7 @@
 -- `tint::to_pixel` meets its contract.
 -- Assumes nothing.
 use mathlib.Core.Path.{sym, ap, _∙_}
-use Rattle.tint.specs.Tints.{tintPixel, gives, faultOr}
+use Rattle.tint.specs.Tints.{tintPixel, gives, faultOr, tintSays}
 use Rattle.tint.specs.declared.ChannelFault.{ChannelFault}
 use borrow.Author.Needs.{needs}
 use Rattle.tint.proofs.to_pixel.Statement.{statement}
@@ -20,11 +20,13 @@ converted-requires : tie.Need-converted-requires
 converted-requires c κs = search needs
 
 returns : tie.Need-returns
+unfolding tintSays
 returns c =
     let b = c .before .before .before in
     sym (ap (λ (f : ChannelFault). faultOr f (tintPixel (b .before .args .tint))) (sym (b .fault-of .ensures) ∙ c .before .channel .given .1))
 
 returns-2 : tie.Need-returns-2
+unfolding tintSays
 returns-2 c =
     let b = c .before .before .before in
     ap gives (c .converted .ensures)

@@ -98,19 +98,31 @@ fn converted(tint: Tint) -> Pixel
     }
 }
 
+// The level of white, the code of black and the greatest code, at 12 bits.
+const SCALE: f64 = 2040.0;
+
+const OFFSET: f64 = 1536.0;
+
+const GREATEST_CODE: u32 = 4095;
+
 // The code of a nonlinear number. The product and the sum are each rounded to a double, in this order.
 fn nonlinear_code(number: f64) -> u16
     ensures { λ r. ⌜ r ≡ nonlinearCode number ⌝ }
 {
-    let product = number * 2040.0;
-    let sum = product + 1536.0;
-    nearest_whole(sum, 0, 4095) as u16
+    let product = number * SCALE;
+    let sum = product + OFFSET;
+    nearest_whole(sum, 0, GREATEST_CODE) as u16
 }
+
+// Light is counted in millionths, up to twice reference white on either side of black.
+const MILLION: f64 = 1000000.0;
+
+const LIGHT_LIMIT: u32 = 2000000;
 
 // Light in millionths. The product is rounded to a double.
 fn light_number(number: f64) -> i32
     ensures { λ r. ⌜ r ≡ lightNumber number ⌝ }
 {
-    let product = number * 1000000.0;
-    nearest_whole(product, 2000000, 2000000) as i32
+    let product = number * MILLION;
+    nearest_whole(product, LIGHT_LIMIT, LIGHT_LIMIT) as i32
 }

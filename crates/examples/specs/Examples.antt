@@ -81,7 +81,7 @@ examples =
     -- Rule 10.8. `double a b` is the double nearest to a / b, and `fin negative m e` is m × 2^e.
     ∷ tint (Code 0 128 255) (gives (pixel 1536 2560 3576))
     ∷ tint (Nonlinear (channels (double 0 1) (double 1 1) (double 5 4))) (gives (pixel 1536 3576 4086))
-    ∷ tint (Nonlinear (channels (double 1 4080) (neg (double 1 4080)) (neg (double 0 1)))) (gives (pixel 1537 1536 1536))
+    ∷ tint (Nonlinear (channels (neg (double 3059 4080)) (double 1 4080) (neg (double 0 1)))) (gives (pixel 7 1537 1536))
     ∷ tint (Nonlinear (channels (fin false 1 (pos 1023)) (fin true 1 (pos 1023)) (fin false 1 (negsuc 1073)))) (gives (pixel 4095 0 1536))
     ∷ tint (Light (channels (double 313 100000) (double 3131 1000000) (double 0 1))) (gives (pixel 1618 1619 1536))
     ∷ tint (Nonlinear (channels (double 1 1) (inf true) nan)) (refusesAt 17 1)

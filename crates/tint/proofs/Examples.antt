@@ -17,11 +17,11 @@ pub code-example : tintSays (Code 0 128 255) ≡ gives (pixel 1536 2560 3576)
 unfolding tintSays tintFault tintPixel fromSrgb
 code-example = refl
 
--- The second line: exactly, 2,040 times the double nearest to 1 / 4,080 is a little less than 0.5. The last: numbers whose product is
--- too large for a double, and the least double above 0.
+-- The second line is about the two roundings: one for both would give 6 for red, and none 1,536 for green. The last: numbers whose
+-- product is too large for a double, and the least double above 0.
 pub nonlinear-examples :
     (tintSays (Nonlinear (channels (double 0 1) (double 1 1) (double 5 4))) ≡ gives (pixel 1536 3576 4086))
-    × (tintSays (Nonlinear (channels (double 1 4080) (neg (double 1 4080)) (neg (double 0 1)))) ≡ gives (pixel 1537 1536 1536))
+    × (tintSays (Nonlinear (channels (neg (double 3059 4080)) (double 1 4080) (neg (double 0 1)))) ≡ gives (pixel 7 1537 1536))
     × (tintSays (Nonlinear (channels (fin false 1 (pos 1023)) (fin true 1 (pos 1023)) (fin false 1 (negsuc 1073)))) ≡ gives (pixel 4095 0 1536))
 unfolding tintSays tintFault tintPixel nonlinearCode nearestWhole nearest nearestDown ofInt div mul add neg
 nonlinear-examples = (refl, refl, refl)

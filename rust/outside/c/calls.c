@@ -195,8 +195,8 @@ static void tints(void)
     CHECK(holds(pixel, 1536, 2560, 3576));
     CHECK(kiosk_tint_nonlinear(0.0, 1.0, 1.25, pixel, &place) == 1);
     CHECK(holds(pixel, 1536, 3576, 4086));
-    CHECK(kiosk_tint_nonlinear(1.0 / 4080, -1.0 / 4080, -0.0, pixel, &place) == 1);
-    CHECK(holds(pixel, 1537, 1536, 1536));
+    CHECK(kiosk_tint_nonlinear(-3059.0 / 4080, 1.0 / 4080, -0.0, pixel, &place) == 1);
+    CHECK(holds(pixel, 7, 1537, 1536));
     CHECK(kiosk_tint_nonlinear(DBL_MAX, -DBL_MAX, DBL_MIN, pixel, &place) == 1);
     CHECK(holds(pixel, 4095, 0, 1536));
     CHECK(kiosk_tint_light(0.00313, 0.003131, 0.0, pixel, &place) == 1);

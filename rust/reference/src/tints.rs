@@ -168,8 +168,8 @@ mod tests {
         assert_eq!(to_pixel(Tint::Code([0, 128, 255])), Ok([1536, 2560, 3576]));
         assert_eq!(nonlinear([0.0, 1.0, 1.25]), Ok([1536, 3576, 4086]));
         assert_eq!(
-            nonlinear([1.0 / 4080.0, -1.0 / 4080.0, -0.0]),
-            Ok([1537, 1536, 1536])
+            nonlinear([-3059.0 / 4080.0, 1.0 / 4080.0, -0.0]),
+            Ok([7, 1537, 1536])
         );
         let huge = 2f64.powi(1023);
         assert_eq!(

@@ -6,7 +6,7 @@ use mathlib.Core.Bool.{true, false}
 use mathlib.Core.List.{List, [], _∷_}
 use lib.IntN.{ℤ, pos, negsuc}
 use lib.Ieee.{nan, inf, fin, neg}
-use Rattle.numbers.specs.Doubles.{double}
+use Rattle.doubles.specs.Doubles.{double}
 use Rattle.samples.specs.declared.Pixel.{Pixel}
 use Rattle.samples.specs.Samples.{pixel}
 use Rattle.esrgb.specs.Depths.{offset}

@@ -4,4 +4,3 @@ pub mod Booleans
 pub mod Writing
 pub mod Sign
 pub mod Bits
-pub mod Whole

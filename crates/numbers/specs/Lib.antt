@@ -1,4 +1,2 @@
 pub mod Rounding
 pub mod Bytes
-pub mod Doubles
-pub mod HowWhole

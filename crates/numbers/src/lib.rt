@@ -1,9 +1,6 @@
-// Whole numbers: how a quotient is rounded, how a number stands in bytes, how far one is above another, and
-// which one is nearest to a double. The definitions of specs/ and the laws of proofs/ are what the crates
-// above use; the functions take and give single numbers, so that they need no bound on an index and ask
-// nothing of a caller.
-pub mod doubles;
-
+// Whole numbers: how a quotient is rounded, how a number stands in bytes, and how far one is above
+// another. The definitions of specs/ and the laws of proofs/ are what the crates above use; the functions
+// take and give single numbers, so that they need no bound on an index and ask nothing of a caller.
 ghost use mathlib.Core.Path.{_≡_};
 ghost use mathlib.Core.List.{[], _∷_};
 ghost use Prim.Native.Nat.{_-_};

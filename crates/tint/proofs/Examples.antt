@@ -5,7 +5,7 @@ use mathlib.Core.Bool.{true, false}
 use lib.IntN.{pos, negsuc}
 use lib.Ieee.{nan, inf, fin, neg, add, mul, div, ofInt}
 use Rattle.numbers.specs.Rounding.{nearest, nearestDown}
-use Rattle.numbers.specs.Doubles.{nearestWhole, double}
+use Rattle.doubles.specs.Doubles.{nearestWhole, double}
 use Rattle.samples.specs.Samples.{pixel}
 use Rattle.esrgb.specs.Codes.{fromSrgb}
 use Rattle.transfer.specs.Level.{levelOfLight, codeOfLight}

@@ -13,7 +13,7 @@ use lib.Ieee.Fits.{round-is}
 use lib.Ieee.Scale.{finite}
 use borrow.Author.Tests.{leb-true, leb-false}
 use Rattle.numbers.specs.Rounding.{nearest, nearestDown}
-use Rattle.numbers.specs.Doubles.{nearestWhole}
+use Rattle.doubles.specs.Doubles.{nearestWhole}
 use Rattle.esrgb.specs.Depths.{greatest, offset}
 use Rattle.transfer.specs.Light.{scale}
 use Rattle.transfer.specs.Level.{reachesLevel, levelOfLight, codeOfLight}

@@ -10,8 +10,8 @@ use lib.Ieee.{Float, binary64, ofBits, ofInt}
 use mir.Syntax.{w16, w32, w64}
 use mir.Val.{Fits, SFits, toZ, ofZ}
 use mir.ValLaws.{toZ-ofZ}
-use Rattle.numbers.specs.Doubles.{nearestWhole}
-use Rattle.numbers.proofs.Whole.{whole-size, whole-natural}
+use Rattle.doubles.specs.Doubles.{nearestWhole}
+use Rattle.doubles.proofs.Whole.{whole-size, whole-natural}
 use Rattle.esrgb.specs.Depths.{offset}
 use Rattle.transfer.specs.Light.{scale}
 

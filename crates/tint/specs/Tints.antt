@@ -5,7 +5,7 @@ use mathlib.Core.Bool.{cond, not}
 use lib.IntN.{ℤ, pos, natAbs}
 use lib.Ieee.{Float, binary64, add, mul, ofInt}
 use lib.Ieee.Scale.{finite}
-use Rattle.numbers.specs.Doubles.{nearestWhole}
+use Rattle.doubles.specs.Doubles.{nearestWhole}
 use Rattle.refusal.specs.Refusals.{numberOf}
 use Rattle.samples.specs.declared.Pixel.{Pixel}
 use Rattle.samples.specs.Samples.{pixel}

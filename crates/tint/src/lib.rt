@@ -1,11 +1,11 @@
-// Brand tints (rules, section 11): a colour as 8-bit codes, nonlinear numbers or light becomes a pixel of
+// Brand tints (rules, section 11): a colour as 8-bit values, nonlinear numbers or light becomes a pixel of
 // 12-bit e-sRGB. For every tint it promises the pixel, or 17 and the channel that is not finite, and asks
 // nothing of a caller.
+use doubles::is_finite;
+use doubles::nearest_whole;
 use esrgb::Depth;
 use esrgb::from_srgb;
 use linear::pixel_of_light;
-use numbers::doubles::is_finite;
-use numbers::doubles::nearest_whole;
 use refusal::Refusal;
 use samples::Pixel;
 ghost use mathlib.Core.Path.{_≡_};

@@ -4,7 +4,7 @@ use Prim.Native.Nat.{_^_}
 use mathlib.Core.Path.{_≡_}
 use lib.Dec.{lit<}
 use borrow.Author.Needs.{needs}
-use Rattle.numbers.specs.Doubles.{nearestWhole}
+use Rattle.doubles.specs.Doubles.{nearestWhole}
 use Rattle.tint.specs.Tints.{times, lightLimit, lightNumber}
 use Rattle.tint.proofs.Rounded.{is-million, signed-cast, signed-is}
 use Rattle.tint.proofs.light_number.Statement.{statement}

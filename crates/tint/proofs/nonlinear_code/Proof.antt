@@ -3,7 +3,7 @@
 use mathlib.Core.Path.{_≡_}
 use lib.Dec.{lit<}
 use borrow.Author.Needs.{needs}
-use Rattle.numbers.specs.Doubles.{nearestWhole}
+use Rattle.doubles.specs.Doubles.{nearestWhole}
 use Rattle.esrgb.specs.Depths.{greatest, offset}
 use Rattle.transfer.specs.Light.{scale}
 use Rattle.tint.specs.Tints.{times, plus, nonlinearCode}

@@ -1,13 +1,13 @@
--- `numbers::doubles::nearest_size` meets its contract.
+-- `doubles::nearest_size` meets its contract.
 -- Assumes nothing.
 use Prim.Native.Nat.{_<_}
 use mathlib.Core.Bool.{true, false}
 use native.Mathlib.Omega.{arith}
 use borrow.Author.Needs.{needs}
 use borrow.Author.Tests.{not-true, not-false}
-use Rattle.numbers.proofs.Whole.{Inside, inside, in-range, n-less, up-rounds, down-rounds, at-top, at-zero}
-use Rattle.numbers.proofs.doubles.nearest_size.Statement.{statement}
-use Rattle.numbers.proofs.doubles.nearest_size.Tie as tie
+use Rattle.doubles.proofs.Whole.{Inside, inside, in-range, n-less, up-rounds, down-rounds, at-top, at-zero}
+use Rattle.doubles.proofs.nearest_size.Statement.{statement}
+use Rattle.doubles.proofs.nearest_size.Tie as tie
 
 returns : tie.Need-returns
 returns c = at-zero _ _ _ (not-true _ (c .if1 .taken))

@@ -3,9 +3,9 @@
 use Prim.Native.Nat.{ℕ, _*_, min}
 use mathlib.Core.Bool.{true, false}
 use lib.Ieee.{Float, nan, inf, fin, up, down}
 use Rattle.numbers.specs.Rounding.{nearest, nearestDown}
-use Rattle.numbers.specs.declared.doubles.Ties.{Ties}
-use Rattle.numbers.specs.declared.doubles.Ties.the-variants.{Up, Down}
+use Rattle.doubles.specs.declared.Ties.{Ties}
+use Rattle.doubles.specs.declared.Ties.the-variants.{Up, Down}
 
 -- A quotient to the nearest whole number, a tie upward or downward.
 unfoldable pub nearestBy : Ties → ℕ → ℕ → ℕ

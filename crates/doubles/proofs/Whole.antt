@@ -15,11 +15,11 @@ use lib.Ieee.Back.{round-whole}
 use lib.Ieee.Scale.{round-same, overflow, finite}
 use lib.Ieee.Fits.{down-pos}
 use borrow.Author.Tests.{ltb-true, ltb-false, lt-ltb, le-ltb}
 use Rattle.numbers.specs.Rounding.{nearest, nearestDown}
-use Rattle.numbers.specs.Doubles.{nearestWhole}
-use Rattle.numbers.specs.HowWhole.{nearestBy, nearestSize}
-use Rattle.numbers.specs.declared.doubles.Ties.{Ties}
-use Rattle.numbers.specs.declared.doubles.Ties.the-variants.{Up, Down}
+use Rattle.doubles.specs.Doubles.{nearestWhole}
+use Rattle.doubles.specs.HowWhole.{nearestBy, nearestSize}
+use Rattle.doubles.specs.declared.Ties.{Ties}
+use Rattle.doubles.specs.declared.Ties.the-variants.{Up, Down}
 
 -- ---- comparisons of fractions
 

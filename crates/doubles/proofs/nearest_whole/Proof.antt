@@ -1,4 +1,4 @@
--- `numbers::doubles::nearest_whole` meets its contract.
+-- `doubles::nearest_whole` meets its contract.
 -- Assumes nothing.
 use mathlib.Core.Path.{_≡_, ap, _∙_}
 use Prim.Native.Nat.{ℕ, _<_, _^_}
@@ -7,12 +7,12 @@ use lib.Ieee.{neg}
 use mir.Syntax.{w64}
 use mir.ValLaws.{toZ-pos}
 use borrow.Author.Needs.{needs}
-use Rattle.numbers.specs.HowWhole.{nearestSize}
-use Rattle.numbers.specs.declared.doubles.Ties.the-variants.{Up, Down}
+use Rattle.doubles.specs.HowWhole.{nearestSize}
+use Rattle.doubles.specs.declared.Ties.the-variants.{Up, Down}
 use Rattle.numbers.proofs.Sign.{opposite-fits, opposite-is}
-use Rattle.numbers.proofs.Whole.{of-negative, of-other}
-use Rattle.numbers.proofs.doubles.nearest_whole.Statement.{statement}
-use Rattle.numbers.proofs.doubles.nearest_whole.Tie as tie
+use Rattle.doubles.proofs.Whole.{of-negative, of-other}
+use Rattle.doubles.proofs.nearest_whole.Statement.{statement}
+use Rattle.doubles.proofs.nearest_whole.Tie as tie
 
 nearest-size-requires : tie.Need-nearest-size-requires
 nearest-size-requires c κs = search needs

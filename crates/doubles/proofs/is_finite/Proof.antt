@@ -1,8 +1,8 @@
--- `numbers::doubles::is_finite` meets its contract.
+-- `doubles::is_finite` meets its contract.
 -- Assumes nothing.
-use Rattle.numbers.proofs.Whole.{below-infinity, not-below-infinity}
-use Rattle.numbers.proofs.doubles.is_finite.Statement.{statement}
-use Rattle.numbers.proofs.doubles.is_finite.Tie as tie
+use Rattle.doubles.proofs.Whole.{below-infinity, not-below-infinity}
+use Rattle.doubles.proofs.is_finite.Statement.{statement}
+use Rattle.doubles.proofs.is_finite.Tie as tie
 
 returns : tie.Need-returns
 returns c = below-infinity (c .before .args .x) (cc (c .if1 .taken))

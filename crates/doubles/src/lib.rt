@@ -3,8 +3,8 @@
 // specs/Doubles.antt. Nothing is rounded on the way.
 ghost use mathlib.Core.Path.{_≡_};
 ghost use lib.Ieee.Scale.{finite};
-ghost use Rattle.numbers.specs.Doubles.{nearestWhole};
-ghost use Rattle.numbers.specs.HowWhole.{nearestSize};
+ghost use Rattle.doubles.specs.Doubles.{nearestWhole};
+ghost use Rattle.doubles.specs.HowWhole.{nearestSize};
 
 // Neither infinite nor not a number.
 pub fn is_finite(x: f64) -> bool

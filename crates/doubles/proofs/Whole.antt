@@ -3,7 +3,7 @@
 use Prim.Native.Nat.{ℕ, zero, suc, _+_, _-_, _*_, _/_, _^_, _≤_, _<_, min}
 use mathlib.Core.Path.{_≡_, refl, sym, ap, _∙_, subst}
 use mathlib.Core.Bool.{Bool, true, false, true≢false, false≢true, cond}
-use native.Mathlib.Nat.{mul-right-comm, mul-assoc, mul-pos, mul-le-mul-right, mul-lt-mul-of-pos-right, le-of-lt, lt-of-lt-of-le, div-mul-le-self, lt-div-mul-add, div-lt-iff-lt-mul, div-eq-of-lt-le, le-div-iff-mul-le, zero-min}
+use native.Mathlib.Nat.{mul-right-comm, mul-assoc, mul-pos, mul-le-mul-right, mul-lt-mul-of-pos-right, lt-of-lt-of-le, div-mul-le-self, lt-div-mul-add, div-lt-iff-lt-mul, div-eq-of-lt-le, le-div-iff-mul-le, zero-min}
 use native.Mathlib.Omega.{arith}
 use lib.Dec.{T, ltb, lt→ltb, lit<, lit≤}
 use lib.Pow.{shl-lt}

@@ -7,7 +7,7 @@ use mathlib.Core.Bool.{Bool, true, false, not, cond, _&&_, Bool·beq}
 use native.Mathlib.Nat.{le-trans}
 use native.Mathlib.Omega.{arith}
 use lib.Dec.{T, ltb, leb}
-use lib.IntN.{ℤ, pos, negsuc, negℤ}
+use lib.IntN.{pos, negℤ}
 use lib.Ieee.{Float, nan, inf, fin, Format, binary64, low, emax, prec, isNan, unlike, up, down, units, odd, round, mul, add, sum, ofInt}
 use lib.Ieee.Fits.{round-is}
 use lib.Ieee.Scale.{finite}

@@ -21,7 +21,7 @@ fn code_in((up, down): &Around, q: i32) -> i64 {
 }
 
 /// The 12-bit code of a light from -[`TOP`] to [`TOP`], by the reference.
-pub fn codes_at_twelve(q: i32) -> i64 {
+pub fn code_at_twelve(q: i32) -> i64 {
     code_in(&AT_TWELVE, q)
 }
 

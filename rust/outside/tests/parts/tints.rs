@@ -1,6 +1,6 @@
 //! Tints: doubles by their bits, so that every kind of not a number and -0.0 come through as they are.
 
-use crate::parts::light::codes_at_twelve;
+use crate::parts::light::code_at_twelve;
 use outside::{said, Random};
 use reference::tints::{to_pixel_by, Tint};
 use std::collections::BTreeSet;
@@ -51,7 +51,7 @@ fn of_library(tint: Tint) -> kiosk::Tint {
 /// A tint by both. Gives the place where it is refused.
 fn by_both(tint: Tint) -> Option<usize> {
     let found = kiosk::tint_to_pixel(of_library(tint)).map(|pixel| pixel.map(i64::from));
-    let expected = to_pixel_by(codes_at_twelve, tint);
+    let expected = to_pixel_by(code_at_twelve, tint);
     assert_eq!(said(found), expected, "{tint:x?}");
     expected.err().and_then(|refusal| refusal.place)
 }
@@ -88,7 +88,7 @@ pub fn every_code() -> u64 {
         bits.extend(with_neighbours((f64::from(twice) / 2.0 - 1536.0) / 2040.0));
     }
     for q in -2_000_001..=2_000_001 {
-        if codes_at_twelve(q) != codes_at_twelve(q - 1) || q % 1000 == 0 {
+        if code_at_twelve(q) != code_at_twelve(q - 1) || q % 1000 == 0 {
             for light in [f64::from(q) - 0.5, f64::from(q)] {
                 bits.extend(with_neighbours(light / 1_000_000.0));
             }

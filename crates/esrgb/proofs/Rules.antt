@@ -15,8 +15,13 @@ use Rattle.esrgb.specs.Codes.{fromSrgb, toSrgb, changeDepth}
 use Rattle.esrgb.specs.HowApplied.{applied, ruleOf, Computes, lineOf, cutOf, changeOf}
 use Rattle.esrgb.proofs.Scale.{Scale}
 
+-- To the nearest over an even number: half of it is added first.
+nearest-even : (h y : ℕ) → nearest y (2 * h) ≡ (y + h) / (2 * h)
+unfolding nearest
+nearest-even h y = ap (λ (z : ℕ). z / (2 * (2 * h))) (omega arith) ∙ mul-div-mul-left (y + h) (2 * h) (omega arith)
+
 -- (a + h) ÷ 2h, where a is what x is above 384h, needs no look at which is greater: below 383h both sides are 0
-low-part : (h x : ℕ) → 1 ≤ h → (x - (192 * (2 * h) - h)) / (2 * h) ≡ (x - 192 * (2 * h) + h) / (2 * h)
+low-part : (h x : ℕ) → 1 ≤ h → (x - (192 * (2 * h) - h)) / (2 * h) ≡ nearest (x - 192 * (2 * h)) (2 * h)
 low-part h x p =
     elim (decLe (192 * (2 * h)) x) [
       | yes a ↦ ap (λ (y : ℕ). y / (2 * h)) (omega arith)
@@ -24,13 +29,7 @@ low-part h x p =
           let below : x < 192 * (2 * h) = omega arith in
           div-eq-of-lt (omega arith) ∙ sym (div-eq-of-lt (omega arith))
     ]
-
-half-added : (h x : ℕ) → 1 ≤ h → (x - (192 * (2 * h) - h)) / (2 * h) ≡ nearest (x - 192 * (2 * h)) (2 * h)
-unfolding nearest
-half-added h x p =
-    low-part h x p
-    ∙ sym (mul-div-mul-left (x - 192 * (2 * h) + h) (2 * h) (omega arith))
-    ∙ ap (λ (y : ℕ). y / (2 * (2 * h))) (omega arith)
+    ∙ sym (nearest-even h (x - 192 * (2 * h)))
 
 pub from-srgb-computes : (n : ℕ) → Computes (Affine (lineOf n)) (fromSrgb n)
 unfolding applied fromSrgb
@@ -42,7 +41,7 @@ to-srgb-computes n s x =
     let e : step n / 2 ≡ s .half-step = omega (arith, s .even) in
     let h : 1 ≤ s .half-step = omega (arith, s .even, s .some) in
     let shift : (n - 9) % 16 ≡ n - 9 = mod-eq-of-lt (omega (arith, s .least, s .most)) in
-    rw (shift, e, s .zero-at, s .even) (ap (λ (y : ℕ). min 255 y % 65536) (half-added (s .half-step) x h))
+    rw (shift, e, s .zero-at, s .even) (ap (λ (y : ℕ). min 255 y % 65536) (low-part (s .half-step) x h))
 
 -- depth up, and equal depths
 up-computes : (n m : ℕ) → n ≤ m → Computes (Affine (record { factor = 2 ^ (m - n); offset = 0 })) (changeDepth n m)
@@ -55,13 +54,13 @@ down-computes n m h f x =
     let e : m - n ≡ 0 = omega arith in
     rw (mod-eq-of-lt f, e, mul-one)
 
-pub change-computes : (n m : ℕ) → n - m < 16 → Computes (ruleOf (changeOf n m)) (changeDepth n m)
-change-computes n m f x =
+pub change-computes : (n m : ℕ) → Scale n → Scale m → Computes (ruleOf (changeOf n m)) (changeDepth n m)
+change-computes n m s t x =
     elim (decLe n m) [
       | yes h ↦ rw (le-leb n m h) (up-computes n m h x)
       | no h ↦
           let down : m < n = omega arith in
-          rw (lt-leb n m down) (down-computes n m down f x)
+          rw (lt-leb n m down) (down-computes n m down (omega (arith, s .most, t .least)) x)
     ]
 
 -- what the code makes of two depths; the factor is 1 shifted up, in 16 bits

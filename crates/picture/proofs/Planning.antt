@@ -100,7 +100,7 @@ module _ (d : Depth) where
     reads = refl;
     writes = refl;
     makes = λ src whole.
-        let computes = change-computes (bits d) (bits to) (omega (arith, scale d .most, scale to .least)) in
+        let computes = change-computes (bits d) (bits to) (scale d) (scale to) in
         same-samples true _ (changeDepth (bits d) (bits to)) (samplesOf true src) computes ∙ by-pixels true true (changeDepth (bits d) (bits to)) src whole;
   }
 

@@ -1,7 +1,6 @@
 -- `esrgb::apply` meets its contract: each arm is its case of the definition.
 -- Assumes nothing.
 use native.Mathlib.Omega.{arith}
-use mathlib.Core.Path.{_∙_, ap, sym}
 use native.Mathlib.Nat.{le-add-right, lt-of-le-of-lt}
 use Rattle.esrgb.specs.HowApplied.{applied}
 use Rattle.esrgb.proofs.Rules.{affine-fits}
@@ -50,7 +49,7 @@ unfolding applied
 returns c = rw (c .before .before .before .rule .given .1)
 
 returns-2 : tie.Need-returns-2
-returns-2 c = c .to-eight .ensures ∙ ap (λ rule. applied rule (c .before .before .before .before .args .sample)) (sym (c .before .before .rule2 .given .1))
+returns-2 c = rw (c .before .before .rule2 .given .1) (c .to-eight .ensures)
 
 returns-3 : tie.Need-returns-3
 unfolding applied

@@ -1,11 +1,5 @@
 -- `picture::fill_change` meets its contract: each arm runs the loop by the rule of its change.
 -- Assumes nothing.
-use mathlib.Core.Path.{sym, ap, _∙_}
-use mathlib.Core.Bool.{true}
-use mathlib.Core.List.{map}
-use denote.Ref.{now}
-use Rattle.samples.specs.Samples.{twoByTwo, bytesOf}
-use Rattle.esrgb.specs.HowApplied.{applied, ruleOf}
 use borrow.Author.Needs.{needs}
 use Rattle.picture.proofs.fill_change.Statement.{statement}
 use Rattle.picture.proofs.fill_change.Tie as tie
@@ -26,17 +20,13 @@ same-length : tie.Need-same-length
 same-length c = search needs
 
 returns : tie.Need-returns
-returns c =
-    let a = c .before .before .before .before .before .before .before .before .before .args in
-    c .before .before .fill-samples .ensures ∙ ap (λ change. bytesOf true (map (applied (ruleOf change)) (twoByTwo (now (a .src))))) (sym (c .before .before .before .before .before .change .given .1))
+returns c = rw (c .before .before .before .before .before .change .given .1) (c .before .before .fill-samples .ensures)
 
 same-length-2 : tie.Need-same-length-2
 same-length-2 c = search needs
 
 returns-2 : tie.Need-returns-2
-returns-2 c =
-    let a = c .before .before .before .before .before .before .before .before .before .args in
-    c .before .before .fill-samples2 .ensures ∙ ap (λ change. bytesOf true (map (applied (ruleOf change)) (twoByTwo (now (a .src))))) (sym (c .before .before .before .before .before .change2 .given .1))
+returns-2 c = rw (c .before .before .before .before .before .change2 .given .1) (c .before .before .fill-samples2 .ensures)
 
 pub fill-change-spec : {M : Type 1} → statement M
 fill-change-spec =

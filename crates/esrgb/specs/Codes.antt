@@ -1,8 +1,10 @@
 -- One sample between 8-bit sRGB and e-sRGB, and from one depth to another (rules 1.6 to 1.8; PIMA 7667, A1 and A2).
 -- Assumes nothing.
-use Prim.Native.Nat.{ℕ, _+_, _-_, _*_, _/_, _^_, min}
+use Prim.Native.Nat.{ℕ, _+_, _-_, _*_, _^_, min}
+use mathlib.Core.Bool.{cond}
+use lib.Dec.{leb}
 use Rattle.numbers.specs.Rounding.{nearest}
-use Rattle.esrgb.specs.Depths.{offset, step}
+use Rattle.esrgb.specs.Depths.{greatest, offset, step}
 
 -- Rule 1.6, for the 8-bit value a.
 unfoldable pub fromSrgb : ℕ → ℕ → ℕ
@@ -12,6 +14,6 @@ fromSrgb n a = step n * a + offset n
 unfoldable pub toSrgb : ℕ → ℕ → ℕ
 toSrgb n code = min 255 (nearest (code - offset n) (step n))
 
--- Rule 1.8, from n bits to m: at least one of the two powers is 1, and at equal depths both are.
+-- Rule 1.8, from n bits to m. Up: by a power of two, which is 1 at equal depths. Down: nearest, ties upward, clipped to the greatest code.
 unfoldable pub changeDepth : ℕ → ℕ → ℕ → ℕ
-changeDepth n m code = code * 2 ^ (m - n) / 2 ^ (n - m)
+changeDepth n m code = cond (leb n m) (code * 2 ^ (m - n)) (min (greatest m) (nearest code (2 ^ (n - m))))

@@ -2,6 +2,7 @@
 // back, and one depth to another. It promises that a rule computes the definition of its depth, for every
 // sample.
 use numbers::excess;
+use numbers::saturating_add;
 ghost use mathlib.Core.Path.{_≡_};
 ghost use Rattle.esrgb.specs.Depths.{bits, Names, greatest, step};
 ghost use Rattle.esrgb.specs.Codes.{fromSrgb, toSrgb};
@@ -69,8 +70,7 @@ pub fn greatest_of(depth: Depth) -> u16
 pub enum SampleRule {
     Affine(Line),
     ToEight(Cut),
-    // sample / 2^shift.
-    Drop(u16),
+    Round(Rounding),
 }
 
 // factor * sample + offset, in 16 bits.
@@ -85,6 +85,13 @@ pub struct Cut {
     pub shift: u16,
 }
 
+// (sample + lift) / 2^shift - base, in 16 bits, where the sum is at most 65,535.
+pub struct Rounding {
+    pub lift: u16,
+    pub shift: u16,
+    pub base: u16,
+}
+
 pub fn apply(rule: SampleRule, sample: u16) -> u16
     ensures { λ r. ⌜ r ≡ applied rule sample ⌝ }
 {
@@ -92,7 +99,7 @@ pub fn apply(rule: SampleRule, sample: u16) -> u16
         SampleRule::Affine(line) => ((line.factor as u32 * sample as u32 + line.offset as u32)
             % 65536) as u16,
         SampleRule::ToEight(cut) => to_eight(cut, sample),
-        SampleRule::Drop(shift) => sample >> (shift % 16),
+        SampleRule::Round(rounding) => rounded(rounding, sample),
     }
 }
 
@@ -101,6 +108,15 @@ fn to_eight(cut: Cut, sample: u16) -> u16
 {
     let value = excess(sample, cut.low) >> (cut.shift % 16);
     if 255 < value { 255 } else { value }
+}
+
+// The sum stops where codes are clipped, so that none needs a test. The difference may wrap: a processor that
+// does several at once has fewer units for those that stop at 0.
+fn rounded(rounding: Rounding, sample: u16) -> u16
+    ensures { λ r. ⌜ r ≡ applied (SampleRule.Round rounding) sample ⌝ }
+{
+    let quotient = saturating_add(sample, rounding.lift) >> (rounding.shift % 16);
+    ((quotient as u32 + 65536 - rounding.base as u32) % 65536) as u16
 }
 
 // The rule from sRGB.
@@ -125,10 +141,10 @@ pub fn cut_of(depth: Depth) -> Cut
     }
 }
 
-// The rule from one depth to another: by a factor, or by dropping low bits.
+// The rule from one depth to another: by a factor, or to the nearest code.
 pub enum DepthChange {
     Up(Line),
-    Down(u16),
+    Down(Rounding),
 }
 
 pub fn change_of(from: Depth, to: Depth) -> DepthChange
@@ -142,7 +158,14 @@ pub fn change_of(from: Depth, to: Depth) -> DepthChange
             offset: 0,
         })
     } else {
-        DepthChange::Down(n - m)
+        // Codes are lifted to the end of 16 bits: where the sum stops, they are clipped.
+        let shift = n - m;
+        let above = 65535 - greatest_of(from);
+        DepthChange::Down(Rounding {
+            lift: above + (1 << (shift - 1)),
+            shift,
+            base: above >> shift,
+        })
     }
 }
 

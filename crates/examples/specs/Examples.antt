@@ -1,4 +1,5 @@
--- The examples that are proved (rules 10.1 to 10.5, and 10.8), one after another: those to 10.5 are document 01's starred swatches.
+-- The examples that are proved (rules 10.1 to 10.5, the depths of 10.6, and 10.8), one after another: those to 10.5 are document 01's
+-- starred swatches.
 -- Assumes nothing.
 use Prim.Native.Nat.{ℕ, suc, _+_, _-_}
 use mathlib.Core.Path.{_≡_}
@@ -12,7 +13,7 @@ use Rattle.samples.specs.Samples.{pixel}
 use Rattle.esrgb.specs.Depths.{offset}
 use Rattle.esrgb.specs.Codes.{fromSrgb, toSrgb}
 use Rattle.picture.specs.declared.Conversion.{Conversion}
-use Rattle.picture.specs.declared.Conversion.the-variants.{FromSrgb, ToSrgb, ToLumaChroma}
+use Rattle.picture.specs.declared.Conversion.the-variants.{FromSrgb, ToSrgb, ChangeDepth, ToLumaChroma}
 use Rattle.lumachroma.specs.LumaChroma.{toLumaChroma, toRgb}
 use Rattle.picture.specs.Convert.{each, pixelOf}
 use Rattle.transfer.specs.Light.{lightOfCode}
@@ -78,6 +79,11 @@ examples =
     -- Rule 10.5.
     ∷ fromSrgbAndBack 10 (pixel 0 0 255) (pixel 1 0 255)
     ∷ fromSrgbAndBack 12 (pixel 0 0 255) (pixel 0 0 255)
+    -- Rule 10.6.
+    ∷ convert (ChangeDepth 10 12) (pixel 1023 1023 1023) (pixel 4092 4092 4092)
+    ∷ convert (ChangeDepth 12 10) (pixel 1538 1539 4095) (pixel 385 385 1023)
+    ∷ convert (ChangeDepth 16 10) (pixel 65535 65535 65535) (pixel 1023 1023 1023)
+    ∷ convert (ChangeDepth 16 12) (pixel 65535 65535 65535) (pixel 4095 4095 4095)
     -- Rule 10.8. `double a b` is the double nearest to a / b, and `fin negative m e` is m × 2^e.
     ∷ tint (Code 0 128 255) (gives (pixel 1536 2560 3576))
     ∷ tint (Nonlinear (channels (double 0 1) (double 1 1) (double 5 4))) (gives (pixel 1536 3576 4086))

@@ -1,9 +1,9 @@
-// Whole numbers: how a quotient is rounded, how a number stands in bytes, and how far one is above
-// another. The definitions of specs/ and the laws of proofs/ are what the crates above use; the functions
+// Whole numbers: how a quotient is rounded, how a number stands in bytes, and sums and differences that stop
+// at the ends of 16 bits. The definitions of specs/ and the laws of proofs/ are what the crates above use; the functions
 // take and give single numbers, so that they need no bound on an index and ask nothing of a caller.
 ghost use mathlib.Core.Path.{_≡_};
 ghost use mathlib.Core.List.{[], _∷_};
-ghost use Prim.Native.Nat.{_-_};
+ghost use Prim.Native.Nat.{_+_, _-_, min};
 ghost use Rattle.numbers.specs.Bytes.{littleEndian, lowBytes};
 
 // The number of two bytes, the low byte first.
@@ -60,4 +60,11 @@ pub fn excess(x: u16, limit: u16) -> u16
     ensures { λ r. ⌜ r ≡ x - limit ⌝ }
 {
     if limit < x { x - limit } else { 0 }
+}
+
+// The sum of two numbers, and the greatest of 16 bits if it is more. For this too there is one instruction.
+pub fn saturating_add(x: u16, y: u16) -> u16
+    ensures { λ r. ⌜ r ≡ min 65535 (x + y) ⌝ }
+{
+    if 65535 - y < x { 65535 } else { x + y }
 }

@@ -73,8 +73,8 @@ fn fill_change(change: DepthChange, src: &[u8], dst: &mut [u8])
         DepthChange::Up(line) => {
             fill_samples(SampleRule::Affine(line), true, true, src, dst);
         }
-        DepthChange::Down(shift) => {
-            fill_samples(SampleRule::Drop(shift), true, true, src, dst);
+        DepthChange::Down(rounding) => {
+            fill_samples(SampleRule::Round(rounding), true, true, src, dst);
         }
     }
 }

@@ -223,7 +223,11 @@ fn step_rows() {
 
 fn main() {
     depth_row(10, 12, 255, 3);
+    depth_row(12, 10, 2, 6);
     depth_row(12, 10, 3, 6);
+    depth_row(12, 10, 255, 15);
+    depth_row(16, 10, 255, 255);
+    depth_row(16, 12, 255, 255);
     runs_row(10);
     runs_row(12);
     width_row(0, 32);

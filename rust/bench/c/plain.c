@@ -124,8 +124,11 @@ int64_t plain_change_depth(uint32_t from, uint32_t to, const uint8_t *src, size_
         for (size_t k = 0; k < src_len / 2; k++)
             put(dst, k, sample(src, k) << (to - from));
     } else {
-        for (size_t k = 0; k < src_len / 2; k++)
-            put(dst, k, sample(src, k) >> (from - to));
+        uint32_t shift = from - to, half = 1u << (shift - 1), greatest = (1u << to) - 1;
+        for (size_t k = 0; k < src_len / 2; k++) {
+            uint32_t x = (sample(src, k) + half) >> shift;
+            put(dst, k, x > greatest ? greatest : x);
+        }
     }
     return (int64_t)(src_len / 6);
 }

@@ -126,8 +126,13 @@ int64_t sse2_change_depth(uint32_t from, uint32_t to, const uint8_t *src, size_t
             store(dst + i, _mm_sll_epi16(load(src + i), shift));
     } else {
         const __m128i shift = _mm_cvtsi32_si128((int)(from - to));
-        for (size_t i = 0; i < bulk; i += 16)
-            store(dst + i, _mm_srl_epi16(load(src + i), shift));
+        /* Lifted, so that the sum saturates where a quotient would be above the greatest code. */
+        const uint32_t above = 65536 - (1u << from);
+        const __m128i lift = words(above + (1u << (from - to - 1))), base = words(above >> (from - to));
+        for (size_t i = 0; i < bulk; i += 16) {
+            __m128i x = _mm_srl_epi16(_mm_adds_epu16(load(src + i), lift), shift);
+            store(dst + i, _mm_sub_epi16(x, base));
+        }
     }
     plain_change_depth(from, to, src + bulk, src_len - bulk, dst + bulk, dst_len - bulk, place);
     return (int64_t)(src_len / 6);

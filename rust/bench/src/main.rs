@@ -8,6 +8,7 @@ mod c;
 
 use buffer::Buffer;
 use kiosk::{Conversion, Tint};
+use std::collections::BTreeMap;
 use std::hint::black_box;
 use std::num::NonZeroUsize;
 use std::time::Instant;
@@ -151,8 +152,8 @@ fn answer(result: Result<usize, impl std::fmt::Debug>) -> i64 {
     result.expect("a sound picture is converted") as i64
 }
 
-/// Luma and chroma that no picture has: any numbers, so that most pixels are clipped on the way back.
-fn any_luma_chroma(depth: u32, pixels: usize) -> Vec<u8> {
+/// Samples that no picture has: any numbers but 0, so that most pixels of luma and chroma are clipped on the way back.
+fn any_samples(depth: u32, pixels: usize) -> Vec<u8> {
     noise(3 * pixels)
         .map(|x| (x % ((1 << depth) - 1)) as u16 + 1)
         .flat_map(u16::to_le_bytes)
@@ -270,6 +271,9 @@ enum Call {
 /// The most nanoseconds that a tint may take.
 const TINT_LIMIT: f64 = 1000.0;
 
+/// How long depth down may take, in times of depth up between the same two depths.
+const DOWN_LIMIT: f64 = 1.25;
+
 /// What is timed, and the goal if there is one: how long it may take, in times of the better C.
 struct Operation {
     name: String,
@@ -284,7 +288,7 @@ impl Operation {
                 time_conversion(conversion, &picture(conversion, pixels), pixels)
             }
             Call::BackFromAny(depth) => {
-                let src = any_luma_chroma(depth, pixels);
+                let src = any_samples(depth, pixels);
                 time_conversion(Conversion::FromLumaChroma { depth }, &src, pixels)
             }
             Call::CodeToLight(depth) => time_code_to_light(depth, pixels),
@@ -396,12 +400,21 @@ fn compare(operations: &[Operation], sizes: &[usize]) {
     );
     let mut missed = Vec::new();
     for &pixels in sizes {
+        let mut changes = BTreeMap::new();
         for operation in operations.iter().filter(|o| o.is_timed_at(pixels)) {
             let times = operation.time(pixels);
             times.print(operation, pixels);
             if operation.is_missed(&times) {
                 missed.push(format!("{} at {pixels}", operation.name));
             }
+            if let Call::Convert(Conversion::ChangeDepth { from, to }) = operation.call {
+                changes.insert((from, to), times.library);
+            }
+        }
+        let down = changes[&(12, 10)] / changes[&(10, 12)];
+        println!("12 to 10 / 10 to 12  {pixels:>9} {down:>8.2} {DOWN_LIMIT:>33.2}");
+        if DOWN_LIMIT < down {
+            missed.push(format!("12 to 10 / 10 to 12 at {pixels}"));
         }
     }
     println!("goals missed: {}", missed.len());
@@ -438,8 +451,8 @@ fn main() {
 mod tests {
     use super::*;
 
-    /// Sources of every length up to 40 pixels and a byte, some with samples that no code is: each version gives the
-    /// library's answer and bytes.
+    /// Sources of every length up to 40 pixels and a byte, of a picture and of any samples, some with samples that no
+    /// code is: each version gives the library's answer and bytes.
     #[test]
     fn the_c_versions_agree_with_the_library() {
         let mut numbers = noise(usize::MAX);
@@ -449,8 +462,19 @@ mod tests {
             let Call::Convert(conversion) = operation.call else {
                 continue;
             };
-            for len in (0..=241).chain(0..=241) {
-                let mut src: Vec<u8> = picture(conversion, 81)[..len].to_vec();
+            let any = match conversion {
+                Conversion::FromSrgb { .. } => any_samples(16, 81),
+                Conversion::ToSrgb { depth }
+                | Conversion::ChangeDepth { from: depth, .. }
+                | Conversion::ToLumaChroma { depth }
+                | Conversion::FromLumaChroma { depth } => any_samples(depth, 81),
+            };
+            let sources = [picture(conversion, 81), any];
+            for (source, len) in sources
+                .iter()
+                .flat_map(|s| (0..=241).map(move |len| (s, len)))
+            {
+                let mut src = source[..len].to_vec();
                 if len > 0 && next(3) == 0 {
                     let at = next(len as u64) as usize / 2 * 2;
                     src[at] = [0, 255][next(2) as usize];

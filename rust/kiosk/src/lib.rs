@@ -17,7 +17,7 @@ pub enum Conversion {
     FromSrgb { depth: u32 },
     /// E-sRGB to 8-bit sRGB.
     ToSrgb { depth: u32 },
-    /// E-sRGB of one depth to another.
+    /// E-sRGB of one depth to another: down to the nearest code, ties upward. Equal depths copy.
     ChangeDepth { from: u32, to: u32 },
     /// E-sRGB to luma and chroma.
     ToLumaChroma { depth: u32 },

@@ -204,6 +204,23 @@ fn converts_by_every_chain() {
     assert_eq!(left, 5, "no temporary file is left");
 }
 
+/// Rule 10.6: a tie, the nearest, and the greatest code.
+#[test]
+fn brings_codes_to_a_smaller_depth() {
+    let folder = folder("depth");
+    let mut file = spool();
+    file[12 + 16 + 9] = 12;
+    file[50..56].copy_from_slice(&[1538u16, 1539, 4095].map(u16::to_le_bytes).concat());
+    fs::write(folder.join("in.spool"), file).expect("the spool is written");
+    let words = [
+        "convert", "in.spool", "1", "--to", "esrgb10", "--raw", "--out", "raw",
+    ];
+    let done = kiosk(&folder, &words);
+    assert!(done.status.success(), "{}", text(&done.stderr));
+    let raw = fs::read(folder.join("raw")).expect("pixels");
+    assert_eq!(raw, [385u16, 385, 1023].map(u16::to_le_bytes).concat());
+}
+
 #[test]
 fn compares_both_runs() {
     let folder = with_spool("compares");

@@ -44,6 +44,11 @@ static void pictures(void)
     CHECK(code_at(codes, 0) == 384 && code_at(codes, 1) == 640 && code_at(codes, 2) == 894);
     CHECK(kiosk_change_depth(10, 12, codes, sizeof codes, wide, sizeof wide, &place) == 2);
     CHECK(code_at(wide, 0) == 1536 && code_at(wide, 1) == 2560 && code_at(wide, 2) == 3576);
+    put_code(wide, 0, 1538);
+    put_code(wide, 1, 1539);
+    put_code(wide, 2, 4095);
+    CHECK(kiosk_change_depth(12, 10, wide, sizeof wide, back, sizeof back, &place) == 2);
+    CHECK(code_at(back, 0) == 385 && code_at(back, 1) == 385 && code_at(back, 2) == 1023);
     CHECK(kiosk_to_luma_chroma(10, codes, sizeof codes, ycc, sizeof ycc, &place) == 2);
     CHECK(code_at(ycc, 3) == 536 && code_at(ycc, 4) == 426 && code_at(ycc, 5) == 767);
     CHECK(kiosk_from_luma_chroma(10, ycc, sizeof ycc, back, sizeof back, &place) == 2);

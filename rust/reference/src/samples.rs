@@ -56,7 +56,7 @@ pub fn change_depth(from: u32, to: u32, code: i64) -> i64 {
     if to >= from {
         code * (1 << (to - from))
     } else {
-        code / (1 << (from - to))
+        nearest(code, 1 << (from - to)).min(greatest(to))
     }
 }
 
@@ -97,7 +97,14 @@ mod tests {
         );
         assert_eq!([1539, 1540].map(|c| to_srgb(12, c)), [0, 1]);
         assert_eq!(change_depth(10, 12, 1023), 4092);
-        assert_eq!(change_depth(12, 10, 1539), 384);
+        assert_eq!(
+            [1537, 1538, 1539, 4095].map(|c| change_depth(12, 10, c)),
+            [384, 385, 385, 1023]
+        );
+        assert_eq!(
+            [10, 12, 16].map(|to| change_depth(16, to, 65_535)),
+            [1023, 4095, 65_535]
+        );
         assert_eq!(to_luma_chroma(10, [894, 384, 384]), [536, 426, 767]);
         assert_eq!(from_luma_chroma(10, [536, 426, 767]), [894, 383, 384]);
         assert_eq!(to_luma_chroma(10, [0, 0, 1023]), [117, 1023, 429]);

@@ -41,8 +41,8 @@ to-eight-requires c κs = search needs
 enum-known-rule-3 : tie.Need-enum-known-rule-3
 enum-known-rule-3 c = search needs
 
-shr-result : tie.Need-shr-result
-shr-result c = search needs
+rounded-requires : tie.Need-rounded-requires
+rounded-requires c κs = search needs
 
 returns : tie.Need-returns
 unfolding applied
@@ -52,8 +52,7 @@ returns-2 : tie.Need-returns-2
 returns-2 c = rw (c .before .before .rule2 .given .1) (c .to-eight .ensures)
 
 returns-3 : tie.Need-returns-3
-unfolding applied
-returns-3 c = rw (c .before .rule3 .given .1)
+returns-3 c = rw (c .before .before .rule3 .given .1) (c .rounded .ensures)
 
 pub apply-spec : {M : Type 1} → statement M
 apply-spec =
@@ -68,7 +67,7 @@ apply-spec =
     enum-known-rule-2
     to-eight-requires
     enum-known-rule-3
-    shr-result
+    rounded-requires
     returns
     returns-2
     returns-3)

@@ -40,7 +40,15 @@ fn two_frames() -> Vec<u8> {
 }
 
 fn main() {
-    for (from, to, code) in [(10, 12, 1023), (12, 10, 1539)] {
+    let depths = [
+        (10, 12, 1023),
+        (12, 10, 1538),
+        (12, 10, 1539),
+        (12, 10, 4095),
+        (16, 10, 65_535),
+        (16, 12, 65_535),
+    ];
+    for (from, to, code) in depths {
         println!(
             "depth {from} {to} {code} {}",
             samples::change_depth(from, to, code)

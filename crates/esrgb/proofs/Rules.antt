@@ -1,7 +1,7 @@
 -- Each rule computes its definition, at every depth: shown once, over the step.
 -- Assumes nothing.
 use Prim.Native.Nat.{ℕ, suc, _+_, _-_, _*_, _/_, _%_, _^_, _≤_, _<_, min}
-use mathlib.Core.Path.{_≡_, sym, ap, _∙_}
+use mathlib.Core.Path.{_≡_, refl, sym, ap, _∙_}
 use native.Mathlib.Nat.{mod-mod, mod-eq-of-lt, mul-div-mul-left, div-eq-of-lt, div-eq-of-lt-le, le-div-iff-mul-le, div-lt-iff-lt-mul, mul-add-div-right, mul-div-left, mul-assoc, add-mul, add-zero, one-mul, mul-comm, mul-le-mul, le-pred-of-lt, pow-succ', one-le-pow}
 use native.Mathlib.Omega.{arith}
 use native.Mathlib.Decide.{decLe}
@@ -63,7 +63,7 @@ to-srgb-computes n s x =
 -- depth up, and equal depths
 up-computes : (n m : ℕ) → n ≤ m → Computes (Affine (record { factor = 2 ^ (m - n); offset = 0 })) (changeDepth n m)
 unfolding applied changeDepth
-up-computes n m h x = mod-mod _ _ ∙ rw (le-leb n m h, add-zero, mul-comm (2 ^ (m - n)) x)
+up-computes n m h x = mod-mod _ _ ∙ rw (le-leb n m h, add-zero, mul-comm (2 ^ (m - n)) x) refl
 
 -- Depth down: half of what is divided by, and how many times it fits between the codes and the end of 16 bits.
 abbrev halfOf : ℕ → ℕ → ℕ

@@ -110,8 +110,8 @@ fn to_eight(cut: Cut, sample: u16) -> u16
     if 255 < value { 255 } else { value }
 }
 
-// The sum stops where codes are clipped, so that none needs a test. The difference may wrap: a processor that
-// does several at once has fewer units for those that stop at 0.
+// The sum stops where codes are clipped, so that none needs a test. The difference may wrap: as one that stops
+// at 0 it was slower.
 fn rounded(rounding: Rounding, sample: u16) -> u16
     ensures { λ r. ⌜ r ≡ applied (SampleRule.Round rounding) sample ⌝ }
 {

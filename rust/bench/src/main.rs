@@ -451,8 +451,8 @@ fn main() {
 mod tests {
     use super::*;
 
-    /// Sources of every length up to 40 pixels and a byte, of a picture and of any samples, some with samples that no
-    /// code is: each version gives the library's answer and bytes.
+    /// Sources of every length up to 40 pixels and a byte, of a picture and of any samples, some with the greatest code
+    /// and some with samples that no code is: each version gives the library's answer and bytes.
     #[test]
     fn the_c_versions_agree_with_the_library() {
         let mut numbers = noise(usize::MAX);
@@ -478,7 +478,7 @@ mod tests {
                 if len > 0 && next(3) == 0 {
                     let at = next(len as u64) as usize / 2 * 2;
                     src[at] = [0, 255][next(2) as usize];
-                    src[(at + 1).min(len - 1)] = [0, 255][next(2) as usize];
+                    src[(at + 1).min(len - 1)] = [0, 3, 15, 255][next(4) as usize];
                 }
                 let room = conversion.needed(len);
                 let mut dst = vec![7; room];

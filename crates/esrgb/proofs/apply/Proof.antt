@@ -1,5 +1,6 @@
 -- `esrgb::apply` meets its contract: each arm is its case of the definition.
 -- Assumes nothing.
+use mathlib.Core.Path.{refl}
 use native.Mathlib.Omega.{arith}
 use native.Mathlib.Nat.{le-add-right, lt-of-le-of-lt}
 use Rattle.esrgb.specs.HowApplied.{applied}
@@ -46,7 +47,7 @@ rounded-requires c κs = search needs
 
 returns : tie.Need-returns
 unfolding applied
-returns c = rw (c .before .before .before .rule .given .1)
+returns c = rw (c .before .before .before .rule .given .1) refl
 
 returns-2 : tie.Need-returns-2
 returns-2 c = rw (c .before .before .rule2 .given .1) (c .to-eight .ensures)

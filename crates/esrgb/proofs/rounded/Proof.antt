@@ -1,6 +1,7 @@
 -- `esrgb::rounded` meets its contract: the sum is that of the definition, and a part of it has 16 bits too.
 -- Assumes nothing.
 use Prim.Native.Nat.{_/_, _%_, _^_, _<_}
+use mathlib.Core.Path.{refl}
 use native.Mathlib.Omega.{arith}
 use lib.Pow.{shr-le}
 use Rattle.esrgb.specs.HowApplied.{applied}
@@ -35,7 +36,7 @@ cast-result-3 c = search needs
 
 returns : tie.Need-returns
 unfolding applied
-returns c = rw (c .before .before .saturating-add .ensures)
+returns c = rw (c .before .before .saturating-add .ensures) refl
 
 pub rounded-spec : {M : Type 1} → statement M
 rounded-spec =

@@ -88,8 +88,8 @@ int64_t kiosk_from_srgb(uint32_t depth, const uint8_t *src, size_t src_len,
 int64_t kiosk_to_srgb(uint32_t depth, const uint8_t *src, size_t src_len,
                       uint8_t *dst, size_t dst_len, size_t *place);
 
-/* Converts e-sRGB of depth `from` to depth `to`: up by a power of two; down to the nearest code, ties upward,
- * clipped to the greatest. Equal depths copy. */
+/* Converts e-sRGB of depth `from` to depth `to`: up by a power of two, down to the nearest code with
+ * ties upward, clipped to the greatest. Equal depths copy. */
 int64_t kiosk_change_depth(uint32_t from, uint32_t to, const uint8_t *src, size_t src_len,
                            uint8_t *dst, size_t dst_len, size_t *place);
 

@@ -2,7 +2,7 @@
 -- Assumes nothing.
 use Prim.Native.Nat.{ℕ, _+_, _-_, _*_, _/_}
 
--- num / den to the nearest whole number, ties upward (rules 1.7, 2.2, 2.5, 11.4 and 11.5; of a size, 6.4).
+-- num / den to the nearest whole number, ties upward (rules 1.7, 1.8, 2.2, 2.5, 11.4 and 11.5; of a size, 6.4).
 unfoldable pub nearest : ℕ → ℕ → ℕ
 nearest num den = (2 * num + den) / (2 * den)
 

@@ -1,4 +1,4 @@
--- Each rule computes its definition, at every depth: shown once, over the step.
+-- Each rule computes its definition, at every depth: shown once, over the step, or over half of what is divided by.
 -- Assumes nothing.
 use Prim.Native.Nat.{ℕ, suc, _+_, _-_, _*_, _/_, _%_, _^_, _≤_, _<_, min}
 use mathlib.Core.Path.{_≡_, refl, sym, ap, _∙_}
@@ -31,7 +31,8 @@ low-part h x p =
     ]
     ∙ sym (nearest-even h (x - 192 * (2 * h)))
 
--- Lifted by t times 2h, to where the end of 16 bits is the last number that is g, x over 2h is t more, and is clipped to g.
+-- x + h, lifted by t times 2h, is t more over 2h. Where 65,535 is the last number that is t + g over 2h, a sum that stops there is clipped
+-- to g.
 lifted :
     (h t g x : ℕ) → 1 ≤ h → t * (2 * h) + g * (2 * h) + 2 * h ≡ 65536
     → min 65535 (x + (t * (2 * h) + h)) / (2 * h) ≡ t + min g (nearest x (2 * h))
@@ -65,7 +66,7 @@ up-computes : (n m : ℕ) → n ≤ m → Computes (Affine (record { factor = 2 
 unfolding applied changeDepth
 up-computes n m h x = mod-mod _ _ ∙ rw (le-leb n m h, add-zero, mul-comm (2 ^ (m - n)) x) refl
 
--- Depth down: half of what is divided by, and how many times it fits between the codes and the end of 16 bits.
+-- Depth down: half of what is divided by, and how many times the whole fits between the codes and the end of 16 bits.
 abbrev halfOf : ℕ → ℕ → ℕ
 halfOf n m = 2 ^ (n - m - 1)
 

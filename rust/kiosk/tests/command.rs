@@ -209,6 +209,7 @@ fn converts_by_every_chain() {
 fn brings_codes_to_a_smaller_depth() {
     let folder = folder("depth");
     let mut file = spool();
+    // The bits of the second frame, and its pixel.
     file[12 + 16 + 9] = 12;
     file[50..56].copy_from_slice(&[1538u16, 1539, 4095].map(u16::to_le_bytes).concat());
     fs::write(folder.join("in.spool"), file).expect("the spool is written");

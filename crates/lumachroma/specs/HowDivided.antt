@@ -1,23 +1,68 @@
--- How the code divides: the signed quotient (up − down) / den of a chroma, and that of a channel, which is clipped.
+-- How the code divides: luma and chroma by an estimate and what it leaves, and a channel on the way back, which is clipped. The quotient
+-- of a chroma is signed, (up − down) / den.
 -- Assumes nothing.
 use Prim.Native.Nat.{ℕ, _+_, _-_, _*_, _/_, _%_, _^_, _≤_, _<_, min}
 use mathlib.Core.Path.{_≡_}
 use Rattle.numbers.specs.Rounding.{nearest, nearestDown}
+use Rattle.samples.specs.declared.Pixel.{Pixel}
 use Rattle.lumachroma.specs.declared.Starts.{Starts}
 
--- The quotient is within 32767.5 of 0, as it is for 16-bit samples whose weights on either side add up to half of den.
+-- What 16 bits hold.
+abbrev pub span : ℕ
+span = 65536
+
+-- What the quotient of a chroma stands too high, so that it is not below 0: the middle code of 16 bits. An estimate of it starts two
+-- lower, because two shares that are rounded down are taken away.
+abbrev pub bias : ℕ
+bias = 32768
+
+abbrev pub estimateBias : ℕ
+estimateBias = 32766
+
+-- The shares that rule 2.3 gives the other two channels in a chroma, in 65,536ths.
+abbrev pub cbOfRed : ℕ
+cbOfRed = 11058
+
+abbrev pub cbOfGreen : ℕ
+cbOfGreen = 21710
+
+abbrev pub crOfGreen : ℕ
+crOfGreen = 27439
+
+abbrev pub crOfBlue : ℕ
+crOfBlue = 5329
+
+-- 1000 times luma, not rounded.
+abbrev pub weighted : Pixel → ℕ
+weighted p = 299 * p .first + 587 * p .second + 114 * p .third
+
+-- The quotient is within 32767.5 of 0, as it is for 16-bit samples whose weights on either side add up to half of den. A difference of
+-- 500, by which rounding can change 1000 times luma, makes no tie.
 pub record InRange (up down den : ℕ) : Type 0 where
   pub even : den % 2 ≡ 0
-  pub some : 2 ≤ den
+  pub some : 1002 ≤ den
   pub few : den ≤ 2000
   pub above : up ≤ down + 65535 * (den / 2)
   pub below : down ≤ up + 65535 * (den / 2)
   pub fits : up ≤ 65535000
 
--- q is the quotient to the nearest, ties towards zero, plus 32768.
+-- What is divided by den: up − down with the bias and the half that rounds, ties upward. One less, ties go downward.
+abbrev pub biased : ℕ → ℕ → ℕ → ℕ
+biased up down den = den * bias + den / 2 + up - down
+
+-- An estimate of dividend / den, and of one less over den: it is not too great, and what it leaves fits into 16 bits.
+pub record Estimates (dividend den estimate : ℕ) : Type 0 where
+  pub low : den * estimate < dividend
+  pub near : dividend < den * estimate + span
+
+-- What an estimate of a quotient leaves of its dividend, in the last 16 bits.
+unfoldable pub restOf : ℕ → ℕ → ℕ → ℕ
+restOf dividend den estimate = (dividend + den * span - den * estimate) % span
+
+-- q is the quotient to the nearest, ties towards zero, plus the bias.
 pub record Biased (up down den q : ℕ) : Type 0 where
-  pub rounded : q + nearestDown (down - up) den ≡ 32768 + nearestDown (up - down) den
-  pub fits : q < 65536
+  pub rounded : q + nearestDown (down - up) den ≡ bias + nearestDown (up - down) den
+  pub fits : q < span
 
 -- A number that can be the middle code of a depth.
 pub record Middle (middle : ℕ) : Type 0 where

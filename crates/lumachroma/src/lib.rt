@@ -3,18 +3,87 @@
 // nothing of a caller.
 use esrgb::Depth;
 use esrgb::step_of;
+use numbers::excess;
 use samples::Pixel;
 ghost use mathlib.Core.Path.{_≡_};
-ghost use Prim.Native.Nat.{_+_, _-_, _*_, _/_, _^_, _≤_, _<_, min};
+ghost use Prim.Native.Nat.{_+_, _-_, _*_, _/_, _%_, _^_, _≤_, _<_, min};
 ghost use Rattle.esrgb.specs.Depths.{bits, middle};
-ghost use Rattle.lumachroma.specs.LumaChroma.{chroma, toLumaChroma, toRgb};
-ghost use Rattle.lumachroma.specs.HowDivided.{InRange, Biased, Middle, lift, greenOfCb, greenOfCr, startsAt};
+ghost use Rattle.lumachroma.specs.LumaChroma.{luma, blueChroma, redChroma, toLumaChroma, toRgb};
+ghost use Rattle.lumachroma.specs.HowDivided.{span, bias, weighted, restOf, biased, InRange, Estimates, Biased, Middle, lift, greenOfCb, greenOfCr, startsAt};
 
-// 1000 times luma, not yet rounded. Chroma comes from it too, and so never from rounded luma.
-fn weighted_sum(red: u16, green: u16, blue: u16) -> u32
-    ensures { λ r. ⌜ r ≡ 299 * red + 587 * green + 114 * blue ⌝ }
+// ---- luma and chroma
+// A quotient is estimated from shares of the channels, and what the estimate leaves of the dividend gives the
+// rest. That takes no number of more than 16 bits, so that a compiler works on eight pixels at once.
+
+// How many numbers 16 bits hold.
+const SPAN: u32 = 65536;
+
+// What a channel counts in luma and in a chroma, to the nearest of as many parts. In its own chroma a channel
+// counts a half.
+const LUMA_OF_RED: u16 = 19595;
+
+const LUMA_OF_GREEN: u16 = 38470;
+
+const LUMA_OF_BLUE: u16 = 7471;
+
+const CB_OF_RED: u16 = 11058;
+
+const CB_OF_GREEN: u16 = 21710;
+
+const CR_OF_GREEN: u16 = 27439;
+
+const CR_OF_BLUE: u16 = 5329;
+
+// What the quotient of a chroma stands too high, so that it is not below 0: the middle code of 16 bits.
+const BIAS: u32 = 32768;
+
+// The same of its estimate: two lower, because shares are taken away from it, and rounding these two down
+// makes it greater.
+const ESTIMATE_BIAS: u16 = 32766;
+
+// So many parts of a sample, rounded down.
+fn share(sample: u16, parts: u16) -> u16
+    ensures { λ r. ⌜ r ≡ sample * parts / span ⌝ }
 {
-    299 * (red as u32) + 587 * (green as u32) + 114 * (blue as u32)
+    ((sample as u32) * (parts as u32) / SPAN) as u16
+}
+
+// 1000 times luma, not rounded: its last 16 bits. Chroma comes from it too, and so never from rounded luma.
+fn weighted_sum(p: Pixel) -> u16
+    ensures { λ r. ⌜ r ≡ weighted p % span ⌝ }
+{
+    ((299 * (p.first as u32) + 587 * (p.second as u32) + 114 * (p.third as u32)) % SPAN) as u16
+}
+
+// What an estimate of dividend / den leaves of the dividend. It leaves less than 16 bits hold, and so the last
+// 16 bits of the dividend tell it.
+fn rest(dividend: u32, den: u32, estimate: u16) -> u16
+    requires { ⌜ (dividend ≤ 2 ^ 31) × (den ≤ 2000) ⌝ }
+    ensures { λ r. ⌜ r ≡ restOf dividend den estimate ⌝ }
+{
+    ((dividend + den * SPAN - den * (estimate as u32)) % SPAN) as u16
+}
+
+// Luma (rule 2.2).
+fn luma_of(p: Pixel) -> u16
+    ensures { λ r. ⌜ r ≡ luma (p .first) (p .second) (p .third) ⌝ }
+{
+    let estimate = share(p.first, LUMA_OF_RED)
+        + share(p.second, LUMA_OF_GREEN)
+        + share(p.third, LUMA_OF_BLUE);
+    estimate + rest((weighted_sum(p) as u32) + 500, 1000, estimate) / 1000
+}
+
+// (1000 channel - weighted sum) / den to the nearest, ties towards zero, plus the bias. Where it is above 0, one
+// less is divided, so that a tie goes down. The sign matters at a tie alone, and there the channel is so far
+// from luma that luma may be rounded to tell it.
+fn biased_quotient(p: Pixel, channel: u16, den: u32, estimate: u16) -> u32
+    requires { ⌜ InRange (1000 * channel) (weighted p) den × Estimates (biased (1000 * channel) (weighted p) den) den estimate ⌝ }
+    ensures { λ r. ⌜ Biased (1000 * channel) (weighted p) den r ⌝ }
+{
+    let tie = if luma_of(p) < channel { 1 } else { 0 };
+    let dividend = den * BIAS + den / 2 + 1000 * (channel as u32) - (weighted_sum(p) as u32) - tie;
+    (estimate as u32) + ((rest(dividend, den, estimate) / (den as u16)) as u32)
 }
 
 // The middle code, in the width of the sums here.
@@ -24,40 +93,42 @@ fn middle_of(depth: Depth) -> u32
     256 * (step_of(depth) as u32)
 }
 
-// (up - down) / den to the nearest, ties towards zero, plus 32768. That bias, the middle code of 16
-// bits, keeps the dividend above 0, so that both signs take one division and no branch: only what
-// rounds it differs.
-fn biased_quotient(up: u32, down: u32, den: u32) -> u32
-    requires { ⌜ InRange up down den ⌝ }
-    ensures { λ r. ⌜ Biased up down den r ⌝ }
+// A quotient with the middle code of the depth in place of the bias, and 0 where that would be less.
+fn unbiased(depth: Depth, quotient: u32) -> u16
+    requires { ⌜ quotient < span ⌝ }
+    ensures { λ r. ⌜ r ≡ quotient - (bias - middle (bits depth)) ⌝ }
 {
-    let half = if up < down { den / 2 } else { den / 2 - 1 };
-    (den * 32768 + up + half - down) / den
+    let low = BIAS - middle_of(depth);
+    excess(quotient as u16, low as u16)
 }
 
-// The same plus the middle code of the depth in place of 32768, and 0 where that would be less.
-fn chroma_of(depth: Depth, up: u32, down: u32, den: u32) -> u16
-    requires { ⌜ InRange up down den ⌝ }
-    ensures { λ r. ⌜ r ≡ chroma (bits depth) up down den ⌝ }
+// Stored blue chroma (rules 2.3 and 2.4).
+fn blue_chroma_of(depth: Depth, p: Pixel) -> u16
+    ensures { λ r. ⌜ r ≡ blueChroma (bits depth) (p .first) (p .second) (p .third) ⌝ }
 {
-    let biased = biased_quotient(up, down, den);
-    let low = 32768 - middle_of(depth);
-    if biased < low {
-        0
-    } else {
-        (biased - low) as u16
-    }
+    let others = share(p.first, CB_OF_RED) + share(p.second, CB_OF_GREEN);
+    let estimate = ESTIMATE_BIAS + p.third / 2 - others;
+    unbiased(depth, biased_quotient(p, p.third, 1772, estimate))
 }
 
-// A pixel of codes, red, green and blue, as luma, blue chroma and red chroma.
+// Stored red chroma.
+fn red_chroma_of(depth: Depth, p: Pixel) -> u16
+    ensures { λ r. ⌜ r ≡ redChroma (bits depth) (p .first) (p .second) (p .third) ⌝ }
+{
+    let others = share(p.second, CR_OF_GREEN) + share(p.third, CR_OF_BLUE);
+    let estimate = ESTIMATE_BIAS + p.first / 2 - others;
+    unbiased(depth, biased_quotient(p, p.first, 1402, estimate))
+}
+
+// A pixel of codes, red, green and blue, as luma, blue chroma and red chroma. Each sample is a function of the
+// codes; what they have in common a compiler works out once.
 pub fn to_luma_chroma(depth: Depth, p: Pixel) -> Pixel
     ensures { λ r. ⌜ r ≡ toLumaChroma (bits depth) p ⌝ }
 {
-    let sum = weighted_sum(p.first, p.second, p.third);
     Pixel {
-        first: ((sum + 500) / 1000) as u16,
-        second: chroma_of(depth, 1000 * (p.third as u32), sum, 1772),
-        third: chroma_of(depth, 1000 * (p.first as u32), sum, 1402),
+        first: luma_of(p),
+        second: blue_chroma_of(depth, p),
+        third: red_chroma_of(depth, p),
     }
 }
 
@@ -165,9 +236,9 @@ pub fn to_rgb(depth: Depth, p: Pixel) -> Pixel
     let blue = add_chroma(starts.blue, p.first, p.second, BLUE_OF_CB);
     if (red | green | blue) % LIFT < 2 * middle {
         Pixel {
-            first: (red % 65536) as u16,
-            second: (green % 65536) as u16,
-            third: (blue % 65536) as u16,
+            first: (red % SPAN) as u16,
+            second: (green % SPAN) as u16,
+            third: (blue % SPAN) as u16,
         }
     } else {
         Pixel {

@@ -1,6 +1,7 @@
-//! Compiles the C versions with the system's compiler at -O3: plain C, and on x86-64 the one by hand for SSE2.
+//! Compiles the C versions with the system's compiler at -O3: plain C, and on x86-64 the one by hand for SSE2. Links
+//! the library that this one is compared with, under other names.
 
-use std::path::PathBuf;
+use std::path::{Path, PathBuf};
 use std::process::Command;
 use std::{env, fs};
 
@@ -27,6 +28,31 @@ fn main() {
     }
     println!("cargo:rustc-link-search=native={}", out.display());
     println!("cargo:rustc-link-lib=static=versions");
+    link_before(&out);
+}
+
+/// Links the archive that `KIOSK_BEFORE` names, or else the library itself, as `before_to_srgb` and so on. All other
+/// names in it become private.
+fn link_before(out: &Path) {
+    println!("cargo:rerun-if-env-changed=KIOSK_BEFORE");
+    let archive = env::var_os("KIOSK_BEFORE")
+        .or_else(|| env::var_os("DEP_KIOSK_ARCHIVE"))
+        .expect("the package kiosk says where its archive is");
+    println!("cargo:rerun-if-changed={}", archive.display());
+    let mut objcopy = Command::new("objcopy");
+    for name in [
+        "from_srgb",
+        "to_srgb",
+        "change_depth",
+        "to_luma_chroma",
+        "from_luma_chroma",
+    ] {
+        objcopy
+            .arg(format!("--redefine-sym=kiosk_{name}=before_{name}"))
+            .arg(format!("--keep-global-symbol=before_{name}"));
+    }
+    run(objcopy.arg(&archive).arg(out.join("libbefore.a")));
+    println!("cargo:rustc-link-lib=static=before");
 }
 
 fn run(command: &mut Command) {

@@ -49,6 +49,8 @@ fn link() -> Result<(), String> {
     let folder = archive.parent().ok_or("the archive has no folder")?;
     println!("cargo:rustc-link-search=native={}", folder.display());
     println!("cargo:rustc-link-lib=static=kiosk");
+    // For the build scripts of packages that depend on this one.
+    println!("cargo:archive={}", archive.display());
     Ok(())
 }
 

@@ -1,4 +1,5 @@
-//! The C versions, plain (c/plain.c) and by hand for SSE2 (c/sse2.c): the only `unsafe` code of this crate.
+//! The C versions, plain (c/plain.c) and by hand for SSE2 (c/sse2.c), and the library before, by its C interface: the
+//! only `unsafe` code of this crate.
 
 #![allow(unsafe_code)]
 
@@ -60,6 +61,8 @@ convert_by!(plain: plain_from_srgb, plain_to_srgb, plain_change_depth, plain_to_
 
 #[cfg(target_arch = "x86_64")]
 convert_by!(sse2: sse2_from_srgb, sse2_to_srgb, sse2_change_depth, sse2_to_luma_chroma, sse2_from_luma_chroma);
+
+convert_by!(before: before_from_srgb, before_to_srgb, before_change_depth, before_to_luma_chroma, before_from_luma_chroma);
 
 extern "C" {
     fn plain_set_tables(light: *const u32, ten: *const u32, twelve: *const u32);

@@ -1,5 +1,6 @@
 //! Benchmarks: nanoseconds a pixel of each operation, its checks included, beside plain C, C by hand for SSE2, and
 //! memcpy. Run with `cargo run --release -p bench`, and with ` -- 20000` behind it for that size alone.
+//! ` -- before` times the conversions by an earlier library too, whose archive `KIOSK_BEFORE` names.
 
 #![deny(unsafe_code)]
 
@@ -41,6 +42,22 @@ fn best<T>(pixels: usize, dst: &mut [T], versions: &[Version<T>]) -> Vec<f64> {
         .collect()
 }
 
+/// The numbers that all versions write.
+fn agreed<T: Copy + Default + PartialEq>(
+    pixels: usize,
+    dst: &mut [T],
+    versions: &[Version<T>],
+) -> Buffer<T> {
+    assert_eq!(versions[0](dst), pixels as i64);
+    let expected = Buffer::source(dst);
+    for version in versions {
+        dst.fill(T::default());
+        assert_eq!(version(dst), pixels as i64);
+        assert!(*dst == *expected, "a version differs");
+    }
+    expected
+}
+
 /// What one operation takes: by the library, by plain C, by hand, and a copy of as many bytes as it writes.
 struct Times {
     library: f64,
@@ -57,13 +74,7 @@ impl Times {
         versions: &[Version<T>],
     ) -> Times {
         let mut dst = Buffer::destination(room);
-        assert_eq!(versions[0](&mut dst), pixels as i64);
-        let expected = Buffer::source(&dst);
-        for version in versions {
-            dst.fill(T::default());
-            assert_eq!(version(&mut dst), pixels as i64);
-            assert!(*dst == *expected, "a C version differs");
-        }
+        let expected = agreed(pixels, &mut dst, versions);
         let copy = |dst: &mut [T]| {
             dst.copy_from_slice(black_box(&expected));
             pixels as i64
@@ -176,6 +187,18 @@ fn time_conversion(conversion: Conversion, src: &[u8], pixels: usize) -> Times {
             &sse2,
         ],
     )
+}
+
+/// A conversion by the library before and by this one, which must write the same bytes.
+fn before_and_after(conversion: Conversion, pixels: usize) -> [f64; 2] {
+    let src = Buffer::source(&picture(conversion, pixels));
+    let before = |dst: &mut [u8]| c::before(conversion, &src, dst);
+    let after = |dst: &mut [u8]| answer(kiosk::convert(conversion, &src, dst));
+    let versions: [Version<u8>; 2] = [&before, &after];
+    let mut dst = Buffer::destination(conversion.needed(src.len()));
+    agreed(pixels, &mut dst, &versions);
+    let times = best(pixels, &mut dst, &versions);
+    [times[0], times[1]]
 }
 
 /// Depth down from 12 bits to 10, in times of depth up from 10 to 12. The two take turns, as versions do.
@@ -388,15 +411,14 @@ fn operations() -> Vec<Operation> {
     all
 }
 
-/// The sizes that the command names, in pixels, or all.
-fn sizes() -> Vec<usize> {
-    let named: Vec<usize> = std::env::args()
-        .skip(1)
+/// The sizes that words name, in pixels, or these.
+fn sizes(words: impl Iterator<Item = String>, or: &[usize]) -> Vec<usize> {
+    let named: Vec<usize> = words
         .map(|word| word.parse::<NonZeroUsize>())
         .map(|size| size.expect("a size is a number of pixels").get())
         .collect();
     if named.is_empty() {
-        SIZES.to_vec()
+        or.to_vec()
     } else {
         named
     }
@@ -430,6 +452,24 @@ fn compare(operations: &[Operation], sizes: &[usize]) {
     }
 }
 
+/// Times every conversion by the library before and by this one.
+fn compare_with_before(operations: &[Operation], sizes: &[usize]) {
+    println!("ns a pixel, the best of 11 to 101 rounds, checks of the input included");
+    println!(
+        "{:<20} {:>9} {:>8} {:>8} {:>14}",
+        "operation", "pixels", "before", "after", "after / before"
+    );
+    for &pixels in sizes {
+        for operation in operations {
+            if let Call::Convert(conversion) = operation.call {
+                let [before, after] = before_and_after(conversion, pixels);
+                let (name, ratio) = (&operation.name, after / before);
+                println!("{name:<20} {pixels:>9} {before:>8.3} {after:>8.3} {ratio:>14.2}");
+            }
+        }
+    }
+}
+
 fn show_growth(operations: &[Operation]) {
     println!("\nhow the library's time grows with size, ns a pixel");
     let sizes = [100, 1_000, 10_000, 100_000, 1_000_000];
@@ -446,8 +486,12 @@ fn show_growth(operations: &[Operation]) {
 
 fn main() {
     set_tables();
-    let sizes = sizes();
     let operations = operations();
+    let mut words = std::env::args().skip(1).peekable();
+    if words.next_if(|word| word == "before").is_some() {
+        return compare_with_before(&operations, &sizes(words, &[1_000_000]));
+    }
+    let sizes = sizes(words, &SIZES);
     compare(&operations, &sizes);
     if sizes == SIZES {
         show_growth(&operations);
@@ -459,7 +503,8 @@ mod tests {
     use super::*;
 
     /// Sources of every length up to 40 pixels and a byte, of a picture and of any samples, some with the greatest code
-    /// and some with samples that no code is: each version gives the library's answer and bytes.
+    /// and some with samples that no code is: each version gives the library's answer and bytes, and the library before
+    /// does, if `KIOSK_BEFORE` names one.
     #[test]
     fn the_c_versions_agree_with_the_library() {
         let mut numbers = noise(usize::MAX);
@@ -500,6 +545,7 @@ mod tests {
                     assert!(other == dst, "{conversion:?} of {len} bytes");
                 };
                 same(c::plain);
+                same(c::before);
                 #[cfg(target_arch = "x86_64")]
                 same(c::sse2);
             }

@@ -10,7 +10,7 @@ use Rattle.esrgb.specs.declared.Depth.{Depth}
 use Rattle.esrgb.specs.Depths.{bits, greatest, middle}
 use Rattle.esrgb.proofs.Scale.{scale}
 use Rattle.lumachroma.specs.LumaChroma.{chroma, clipped}
-use Rattle.lumachroma.specs.HowDivided.{span, bias, estimateBias, cbOfRed, cbOfGreen, crOfGreen, crOfBlue, InRange, biased, Estimates, restOf, Biased, clippedAt}
+use Rattle.lumachroma.specs.HowDivided.{span, bias, estimateBias, cbOfRed, cbOfGreen, crOfGreen, crOfBlue, InRange, biasedDividend, Estimates, restOf, Biased, clippedAt}
 
 -- An estimate, and what it leaves of the dividend over den, make the quotient. Of the dividend only the last 16 bits are handed on.
 pub divided :
@@ -28,12 +28,12 @@ divided whole den estimate dividend {left} is-left same some fits low near =
 module _ {r g b e : ℕ} (hr : r ≤ 65535) (hg : g ≤ 65535) (hb : b ≤ 65535) (s t : ℕ) where
   pub blue-estimated :
       s ≡ r * cbOfRed / span → t ≡ g * cbOfGreen / span → e ≡ estimateBias + b / 2 - (s + t)
-      → Estimates (biased (1000 * b) (299 * r + 587 * g + 114 * b) 1772) 1772 e
+      → Estimates (biasedDividend (1000 * b) (299 * r + 587 * g + 114 * b) 1772) 1772 e
   blue-estimated hs ht he = record { low = omega arith; near = omega arith }
 
   pub red-estimated :
       s ≡ g * crOfGreen / span → t ≡ b * crOfBlue / span → e ≡ estimateBias + r / 2 - (s + t)
-      → Estimates (biased (1000 * r) (299 * r + 587 * g + 114 * b) 1402) 1402 e
+      → Estimates (biasedDividend (1000 * r) (299 * r + 587 * g + 114 * b) 1402) 1402 e
   red-estimated hs ht he = record { low = omega arith; near = omega arith }
 
 module _ {up down den : ℕ} (s : InRange up down den) where
@@ -51,18 +51,18 @@ module _ {up down den : ℕ} (s : InRange up down den) where
   none x h = down-by-half x ∙ div-eq-of-lt h
 
   -- up − down is 0 or more: a tie goes down.
-  pub above-luma : down ≤ up → Biased up down den ((biased up down den - 1) / den)
+  pub above-luma : down ≤ up → Biased up down den ((biasedDividend up down den - 1) / den)
   above-luma h =
       let x : ℕ = up - down + (den / 2 - 1) in
-      let num : biased up down den - 1 ≡ den * bias + x = omega arith in
-      let q : (biased up down den - 1) / den ≡ bias + x / den = ap (λ y. y / den) num ∙ mul-add-div (omega arith) bias x in
+      let num : biasedDividend up down den - 1 ≡ den * bias + x = omega arith in
+      let q : (biasedDividend up down den - 1) / den ≡ bias + x / den = ap (λ y. y / den) num ∙ mul-add-div (omega arith) bias x in
       record {
         rounded = omega (arith, q, down-by-half (up - down), none (down - up) (omega arith));
         fits = omega (arith, q, small (up - down) (omega arith));
       }
 
   -- up − down is less than 0: x ÷ den, rounded, is taken from the bias.
-  below : up < down → Biased up down den (biased up down den / den)
+  below : up < down → Biased up down den (biasedDividend up down den / den)
   below h =
       let x : ℕ = down - up + (den / 2 - 1) in
       let a : ℕ = x / den in
@@ -71,25 +71,25 @@ module _ {up down den : ℕ} (s : InRange up down den) where
       let rest : x % den < den = mod-lt x (omega arith) in
       let times : (bias - a) * den ≡ den * bias - den * a = mul-comm (bias - a) den ∙ mul-sub den bias a in
       let next : (bias - a + 1) * den ≡ (bias - a) * den + den = omega (arith, add-mul (bias - a) 1 den) in
-      let q : biased up down den / den ≡ bias - a = div-eq-of-lt-le den (omega arith) (omega arith) in
+      let q : biasedDividend up down den / den ≡ bias - a = div-eq-of-lt-le den (omega arith) (omega arith) in
       record {
         rounded = omega (arith, q, down-by-half (down - up), none (up - down) (omega arith));
         fits = omega arith;
       }
 
   -- up − down is 0 or more, and no tie.
-  at-luma : down ≤ up → up ≤ down + 500 → Biased up down den (biased up down den / den)
+  at-luma : down ≤ up → up ≤ down + 500 → Biased up down den (biasedDividend up down den / den)
   at-luma h near =
       let x : ℕ = up - down + den / 2 in
-      let num : biased up down den ≡ den * bias + x = omega arith in
-      let q : biased up down den / den ≡ bias + x / den = ap (λ y. y / den) num ∙ mul-add-div (omega arith) bias x in
+      let num : biasedDividend up down den ≡ den * bias + x = omega arith in
+      let q : biasedDividend up down den / den ≡ bias + x / den = ap (λ y. y / den) num ∙ mul-add-div (omega arith) bias x in
       let zero-is : x / den ≡ 0 = div-eq-of-lt (omega arith) in
       record {
         rounded = omega (arith, q, zero-is, none (up - down) (omega arith), none (down - up) (omega arith));
         fits = omega (arith, q, zero-is);
       }
 
-  pub not-above-luma : up ≤ down + 500 → Biased up down den (biased up down den / den)
+  pub not-above-luma : up ≤ down + 500 → Biased up down den (biasedDividend up down den / den)
   not-above-luma h = ⊎-elim (λ e. at-luma (omega arith) h) (λ l. below (omega arith)) (eq-zero-or-pos (down - up))
 
 -- A biased quotient is the definition's chroma once the middle code is in the bias's place. A weight on both sides changes nothing.

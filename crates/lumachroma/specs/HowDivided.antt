@@ -47,8 +47,8 @@ pub record InRange (up down den : ℕ) : Type 0 where
   pub fits : up ≤ 65535000
 
 -- What is divided by den: up − down with the bias and the half that rounds, ties upward. One less, ties go downward.
-abbrev pub biased : ℕ → ℕ → ℕ → ℕ
-biased up down den = den * bias + den / 2 + up - down
+abbrev pub biasedDividend : ℕ → ℕ → ℕ → ℕ
+biasedDividend up down den = den * bias + den / 2 + up - down
 
 -- An estimate of dividend / den, and of one less over den: it is not too great, and what it leaves fits into 16 bits.
 pub record Estimates (dividend den estimate : ℕ) : Type 0 where

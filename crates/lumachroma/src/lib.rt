@@ -9,11 +9,11 @@ ghost use mathlib.Core.Path.{_≡_};
 ghost use Prim.Native.Nat.{_+_, _-_, _*_, _/_, _%_, _^_, _≤_, _<_, min};
 ghost use Rattle.esrgb.specs.Depths.{bits, middle};
 ghost use Rattle.lumachroma.specs.LumaChroma.{luma, blueChroma, redChroma, toLumaChroma, toRgb};
-ghost use Rattle.lumachroma.specs.HowDivided.{span, bias, weighted, restOf, biased, InRange, Estimates, Biased, Middle, lift, greenOfCb, greenOfCr, startsAt};
+ghost use Rattle.lumachroma.specs.HowDivided.{span, bias, weighted, restOf, biasedDividend, InRange, Estimates, Biased, Middle, lift, greenOfCb, greenOfCr, startsAt};
 
 // ---- luma and chroma
 // A quotient is estimated from shares of the channels, and what the estimate leaves of the dividend gives the
-// rest. That takes no number of more than 16 bits, so that a compiler works on eight pixels at once.
+// rest of it. Of each number 16 bits are enough, so that a compiler works on eight pixels at once.
 
 // How many numbers 16 bits hold.
 const SPAN: u32 = 65536;
@@ -78,7 +78,7 @@ fn luma_of(p: Pixel) -> u16
 // less is divided, so that a tie goes down. The sign matters at a tie alone, and there the channel is so far
 // from luma that luma may be rounded to tell it.
 fn biased_quotient(p: Pixel, channel: u16, den: u32, estimate: u16) -> u32
-    requires { ⌜ InRange (1000 * channel) (weighted p) den × Estimates (biased (1000 * channel) (weighted p) den) den estimate ⌝ }
+    requires { ⌜ InRange (1000 * channel) (weighted p) den × Estimates (biasedDividend (1000 * channel) (weighted p) den) den estimate ⌝ }
     ensures { λ r. ⌜ Biased (1000 * channel) (weighted p) den r ⌝ }
 {
     let tie = if luma_of(p) < channel { 1 } else { 0 };

@@ -7,7 +7,7 @@ use native.Mathlib.Omega.{arith}
 use native.Mathlib.Nat.{div-le-self}
 use Rattle.numbers.specs.Rounding.{nearest}
 use Rattle.lumachroma.specs.LumaChroma.{luma}
-use Rattle.lumachroma.specs.HowDivided.{weighted, biased}
+use Rattle.lumachroma.specs.HowDivided.{weighted, biasedDividend}
 use Rattle.lumachroma.proofs.Quotient.{divided, above-luma, not-above-luma}
 use borrow.Author.Needs.{needs}
 use Rattle.lumachroma.proofs.biased_quotient.Statement.{statement}
@@ -74,7 +74,7 @@ returns c =
     let p = s .args .p in
     let den : ℕ = s .args .den in
     let e : ℕ = s .args .estimate in
-    let whole : ℕ = biased (1000 * s .args .channel) (weighted p) den in
+    let whole : ℕ = biasedDividend (1000 * s .args .channel) (weighted p) den in
     let y : c .before .before .before .before .luma-of .result ≡ luma (p .first) (p .second) (p .third) = c .before .before .before .before .luma-of .ensures in
     ⊎-elim
     (λ w. rw (divided (whole - 1) den e _ (c .rest .ensures) (omega arith) (omega arith) (omega arith) (omega arith) (omega arith))

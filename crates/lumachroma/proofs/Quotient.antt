@@ -6,11 +6,12 @@ use Prim.Native.Nat.{ℕ, _+_, _-_, _*_, _/_, _%_, _≤_, _<_, min}
 use native.Mathlib.Omega.{arith}
 use native.Mathlib.Nat.{eq-zero-or-pos, add-mul, mul-comm, mul-sub, mul-le-mul-left, mul-add-div, mod-lt, div-add-mod, div-div-eq-div-mul, div-eq-of-lt, div-eq-of-lt-le, div-lt-iff-lt-mul}
 use Rattle.numbers.specs.Rounding.{nearest, nearestDown}
+use Rattle.samples.specs.declared.Pixel.{Pixel}
 use Rattle.esrgb.specs.declared.Depth.{Depth}
 use Rattle.esrgb.specs.Depths.{bits, greatest, middle}
 use Rattle.esrgb.proofs.Scale.{scale}
 use Rattle.lumachroma.specs.LumaChroma.{chroma, clipped}
-use Rattle.lumachroma.specs.HowDivided.{span, bias, estimateBias, cbOfRed, cbOfGreen, crOfGreen, crOfBlue, InRange, biasedDividend, Estimates, restOf, Biased, clippedAt}
+use Rattle.lumachroma.specs.HowDivided.{span, bias, estimateBias, cbOfRed, cbOfGreen, crOfGreen, crOfBlue, weighted, InRange, biasedDividend, Estimates, restOf, Biased, clippedAt}
 
 -- An estimate, and what it leaves of the dividend over den, make the quotient. Of the dividend only the last 16 bits are handed on.
 pub divided :
@@ -25,15 +26,15 @@ divided whole den estimate dividend {left} is-left same some fits low near =
     ap (λ y. estimate + y / den) left-is ∙ sym (mul-add-div some estimate x) ∙ ap (λ y. y / den) (sym whole-is)
 
 -- The shares estimate the quotients of the chromas.
-module _ {r g b e : ℕ} (hr : r ≤ 65535) (hg : g ≤ 65535) (hb : b ≤ 65535) (s t : ℕ) where
+module _ (p : Pixel) {e : ℕ} (hr : p .first ≤ 65535) (hg : p .second ≤ 65535) (hb : p .third ≤ 65535) (s t : ℕ) where
   pub blue-estimated :
-      s ≡ r * cbOfRed / span → t ≡ g * cbOfGreen / span → e ≡ estimateBias + b / 2 - (s + t)
-      → Estimates (biasedDividend (1000 * b) (299 * r + 587 * g + 114 * b) 1772) 1772 e
+      s ≡ p .first * cbOfRed / span → t ≡ p .second * cbOfGreen / span → e ≡ estimateBias + p .third / 2 - (s + t)
+      → Estimates (biasedDividend (1000 * p .third) (weighted p) 1772) 1772 e
   blue-estimated hs ht he = record { low = omega arith; near = omega arith }
 
   pub red-estimated :
-      s ≡ g * crOfGreen / span → t ≡ b * crOfBlue / span → e ≡ estimateBias + r / 2 - (s + t)
-      → Estimates (biasedDividend (1000 * r) (299 * r + 587 * g + 114 * b) 1402) 1402 e
+      s ≡ p .second * crOfGreen / span → t ≡ p .third * crOfBlue / span → e ≡ estimateBias + p .first / 2 - (s + t)
+      → Estimates (biasedDividend (1000 * p .first) (weighted p) 1402) 1402 e
   red-estimated hs ht he = record { low = omega arith; near = omega arith }
 
 module _ {up down den : ℕ} (s : InRange up down den) where

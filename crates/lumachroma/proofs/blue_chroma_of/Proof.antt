@@ -28,7 +28,7 @@ sub-estimate c = search needs
 biased-quotient-requires : tie.Need-biased-quotient-requires
 biased-quotient-requires c κs = (
   search needs,
-  blue-estimated (omega arith) (omega arith) (omega arith) (c .before .before .share .result) (c .before .share2 .result) (omega arith) (omega arith) (omega arith),
+  blue-estimated (c .before .before .before .args .p) (omega arith) (omega arith) (omega arith) (c .before .before .share .result) (c .before .share2 .result) (omega arith) (omega arith) (omega arith),
 )
 
 unbiased-requires : tie.Need-unbiased-requires

@@ -18,8 +18,8 @@ ghost use Rattle.lumachroma.specs.HowDivided.{span, bias, weighted, rest
 // How many numbers 16 bits hold.
 const SPAN: u32 = 65536;
 
-// What a channel counts in luma and in a chroma, to the nearest of as many parts. In its own chroma a channel
-// counts a half.
+// What a channel counts in luma and in a chroma, to the nearest part, where SPAN parts are the whole channel. In
+// its own chroma a channel counts a half.
 const LUMA_OF_RED: u16 = 19595;
 
 const LUMA_OF_GREEN: u16 = 38470;
@@ -55,8 +55,8 @@ fn weighted_sum(p: Pixel) -> u16
     ((299 * (p.first as u32) + 587 * (p.second as u32) + 114 * (p.third as u32)) % SPAN) as u16
 }
 
-// What an estimate of dividend / den leaves of the dividend. It leaves less than 16 bits hold, and so the last
-// 16 bits of the dividend tell it.
+// What an estimate of dividend / den leaves of the dividend. That is less than SPAN, and so the last 16 bits of
+// the dividend tell it.
 fn rest(dividend: u32, den: u32, estimate: u16) -> u16
     requires { ⌜ (dividend ≤ 2 ^ 31) × (den ≤ 2000) ⌝ }
     ensures { λ r. ⌜ r ≡ restOf dividend den estimate ⌝ }

@@ -2,15 +2,15 @@
 -- facts of the crate `tint`.
 -- Assumes nothing.
 use mathlib.Core.Path.{refl}
-use Rattle.numbers.specs.Rounding.{nearest, nearestDown}
+use Rattle.numbers.specs.Rounding.{nearest, nearestDown, clippedTo}
 use Rattle.esrgb.specs.Codes.{fromSrgb, toSrgb, changeDepth}
-use Rattle.lumachroma.specs.LumaChroma.{luma, chroma, blueChroma, redChroma, clipped, redBack, greenBack, blueBack}
+use Rattle.lumachroma.specs.LumaChroma.{luma, chroma, blueChroma, redChroma, redBack, greenBack, blueBack}
 use Rattle.transfer.proofs.Examples.{light-examples, code-examples}
 use Rattle.tint.proofs.Examples as tints
 use Rattle.examples.specs.Examples.{AllHold, done, _&_, examples}
 
 pub all-hold : AllHold examples
-unfolding nearest nearestDown fromSrgb toSrgb changeDepth luma chroma blueChroma redChroma clipped redBack greenBack blueBack
+unfolding nearest nearestDown fromSrgb toSrgb changeDepth luma chroma blueChroma redChroma clippedTo redBack greenBack blueBack
 all-hold =
     refl & refl & refl & refl & refl
     & light-examples .0 & light-examples .1 & light-examples .2 & light-examples .3 & light-examples .4

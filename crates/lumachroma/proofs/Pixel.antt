@@ -4,10 +4,10 @@
 use mathlib.Core.Path.{_≡_}
 use Prim.Native.Nat.{ℕ, _+_, _-_, _*_, _^_, _≤_, _<_}
 use native.Mathlib.Omega.{arith}
-use Rattle.numbers.specs.Rounding.{nearest, nearestDown}
-use Rattle.esrgb.specs.Depths.{middle}
+use Rattle.numbers.specs.Rounding.{nearest, nearestDown, clippedTo}
+use Rattle.esrgb.specs.Depths.{greatest, middle}
 use Rattle.esrgb.proofs.Scale.{Scale}
-use Rattle.lumachroma.specs.LumaChroma.{luma, chroma, blueChroma, redChroma, clipped, redBack, greenBack, blueBack}
+use Rattle.lumachroma.specs.LumaChroma.{luma, chroma, blueChroma, redChroma, redBack, greenBack, blueBack}
 use Rattle.lumachroma.specs.Near.{Near}
 
 -- y is within a half of the weighted sum ÷ 1,000, and a code.
@@ -37,15 +37,15 @@ module _ (n r g b : ℕ) (s : Scale n) (hr : r < 2 ^ n) (hg : g < 2 ^ n) (hb : b
   red-chroma-bounds = omega arith
 
   pub red-near : Near r (redBack n (luma r g b) (blueChroma n r g b) (redChroma n r g b))
-  unfolding redBack clipped nearest
+  unfolding redBack clippedTo nearest
   red-near = omega (arith, luma-bounds, red-chroma-bounds)
 
   pub green-near : Near g (greenBack n (luma r g b) (blueChroma n r g b) (redChroma n r g b))
-  unfolding greenBack clipped nearest
+  unfolding greenBack clippedTo nearest
   green-near = omega (arith, luma-bounds, blue-chroma-bounds, red-chroma-bounds)
 
   pub blue-near : Near b (blueBack n (luma r g b) (blueChroma n r g b) (redChroma n r g b))
-  unfolding blueBack clipped nearest
+  unfolding blueBack clippedTo nearest
   blue-near = omega (arith, luma-bounds, blue-chroma-bounds)
 
   module _ (rg : r ≡ g) (gb : g ≡ b) where
@@ -58,20 +58,20 @@ module _ (n r g b : ℕ) (s : Scale n) (hr : r < 2 ^ n) (hg : g < 2 ^ n) (hb : b
     grey-red-chroma = omega arith
 
     pub grey-red : redBack n (luma r g b) (blueChroma n r g b) (redChroma n r g b) ≡ r
-    unfolding redBack clipped nearest
+    unfolding redBack clippedTo nearest
     grey-red = omega (arith, luma-bounds, grey-red-chroma)
 
     pub grey-green : greenBack n (luma r g b) (blueChroma n r g b) (redChroma n r g b) ≡ g
-    unfolding greenBack clipped nearest
+    unfolding greenBack clippedTo nearest
     grey-green = omega (arith, luma-bounds, grey-blue-chroma, grey-red-chroma)
 
     pub grey-blue : blueBack n (luma r g b) (blueChroma n r g b) (redChroma n r g b) ≡ b
-    unfolding blueBack clipped nearest
+    unfolding blueBack clippedTo nearest
     grey-blue = omega (arith, luma-bounds, grey-blue-chroma)
 
 -- What comes back is a code, from any three numbers.
-clipped-code : (n up down den : ℕ) → Scale n → clipped n up down den < 2 ^ n
-unfolding clipped
+clipped-code : (n up down den : ℕ) → Scale n → clippedTo (greatest n) up down den < 2 ^ n
+unfolding clippedTo
 clipped-code n up down den s = omega arith
 
 module _ (n y cb cr : ℕ) (s : Scale n) where

@@ -2,16 +2,16 @@
 -- shown over any denominator. Assumes nothing.
 use mathlib.Core.Path.{_≡_, ap, sym, _∙_}
 use mathlib.Core.Logic.{⊎-elim}
-use Prim.Native.Nat.{ℕ, _+_, _-_, _*_, _/_, _%_, _≤_, _<_, min}
+use Prim.Native.Nat.{ℕ, _+_, _-_, _*_, _/_, _%_, _≤_, _<_}
 use native.Mathlib.Omega.{arith}
 use native.Mathlib.Nat.{eq-zero-or-pos, add-mul, mul-comm, mul-sub, mul-le-mul-left, mul-add-div, mod-lt, div-add-mod, div-div-eq-div-mul, div-eq-of-lt, div-eq-of-lt-le, div-lt-iff-lt-mul}
-use Rattle.numbers.specs.Rounding.{nearest, nearestDown}
+use Rattle.numbers.specs.Rounding.{nearestDown, clippedTo}
 use Rattle.samples.specs.declared.Pixel.{Pixel}
 use Rattle.esrgb.specs.declared.Depth.{Depth}
 use Rattle.esrgb.specs.Depths.{bits, greatest, middle}
 use Rattle.esrgb.proofs.Scale.{scale}
-use Rattle.lumachroma.specs.LumaChroma.{chroma, clipped}
-use Rattle.lumachroma.specs.HowDivided.{span, bias, estimateBias, cbOfRed, cbOfGreen, crOfGreen, crOfBlue, weighted, InRange, biasedDividend, Estimates, restOf, Biased, clippedAt}
+use Rattle.lumachroma.specs.LumaChroma.{chroma}
+use Rattle.lumachroma.specs.HowDivided.{span, bias, estimateBias, cbOfRed, cbOfGreen, crOfGreen, crOfBlue, weighted, InRange, biasedDividend, Estimates, restOf, Biased}
 
 -- An estimate, and what it leaves of the dividend over den, make the quotient. Of the dividend only the last 16 bits are handed on.
 pub divided :
@@ -105,9 +105,8 @@ is-chroma d up down den q up′ down′ b e f =
     omega (arith, b .rounded, rises, falls)
 
 -- Clipping by the middle code is clipping by the depth.
-pub clipped-at : (d : Depth) (up down den : ℕ) → clippedAt (middle (bits d)) up down den ≡ clipped (bits d) up down den
-unfolding clipped clippedAt
+pub clipped-at : (d : Depth) (up down den : ℕ) → clippedTo (2 * middle (bits d) - 1) up down den ≡ clippedTo (greatest (bits d)) up down den
 clipped-at d up down den =
     let s = scale d in
     let e : 2 * middle (bits d) - 1 ≡ greatest (bits d) = omega arith in
-    ap (λ (g : ℕ). min g (nearest (up - down) den)) e
+    ap (λ (g : ℕ). clippedTo g up down den) e

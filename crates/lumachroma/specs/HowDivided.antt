@@ -3,7 +3,7 @@
 -- Assumes nothing.
 use Prim.Native.Nat.{ℕ, _+_, _-_, _*_, _/_, _%_, _^_, _≤_, _<_, min}
 use mathlib.Core.Path.{_≡_}
-use Rattle.numbers.specs.Rounding.{nearest, nearestDown}
+use Rattle.numbers.specs.Rounding.{nearestDown, clippedTo}
 use Rattle.samples.specs.declared.Pixel.{Pixel}
 use Rattle.lumachroma.specs.declared.Starts.{Starts}
 
@@ -69,15 +69,6 @@ pub record Middle (middle : ℕ) : Type 0 where
   pub some : 1 ≤ middle
   pub most : middle ≤ 32768
 
--- `clipped` at the depth with this middle code: the greatest code is one below twice the middle.
-unfoldable pub clippedAt : ℕ → ℕ → ℕ → ℕ → ℕ
-clippedAt middle up down den = min (2 * middle - 1) (nearest (up - down) den)
-
--- The factor is weight / den in units, rounded down.
-pub record Share (den weight unit factor : ℕ) : Type 0 where
-  pub low : den * factor ≤ weight * unit
-  pub near : weight * unit ≤ den * factor + den
-
 -- What a sum stands too high until it is clipped.
 abbrev pub lift : ℕ
 lift = 262144
@@ -111,8 +102,9 @@ startsAt middle =
       blue = start (2 ^ 30) - blueOfCb * middle;
     }
 
--- The sum is the quotient (up − down) / den to the nearest, plus the lift. Where that is no code, it is none on the same side.
+-- The sum is the quotient (up − down) / den to the nearest, plus the lift. Where that is no code, it is none on the same side: the greatest
+-- code is one below twice the middle.
 pub record Unclipped (middle up down den sum : ℕ) : Type 0 where
-  pub clips : min (2 * middle - 1) (sum - lift) ≡ clippedAt middle up down den
+  pub clips : min (2 * middle - 1) (sum - lift) ≡ clippedTo (2 * middle - 1) up down den
   pub least : 65536 ≤ sum
   pub most : sum < 2 * lift

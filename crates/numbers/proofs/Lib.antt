@@ -4,3 +4,4 @@ pub mod Booleans
 pub mod Writing
 pub mod Sign
 pub mod Bits
+pub mod Shares

@@ -9,7 +9,8 @@ use Rattle.esrgb.specs.declared.Depth.{Depth}
 use Rattle.esrgb.specs.Depths.{bits, middle}
 use Rattle.lumachroma.specs.declared.Starts.{Starts}
 use Rattle.lumachroma.specs.LumaChroma.{redBack, greenBack, blueBack}
-use Rattle.lumachroma.specs.HowDivided.{Middle, clippedAt, redOfCr, blueOfCb, greenOfCb, greenOfCr, startsAt, Unclipped}
+use Rattle.lumachroma.specs.HowDivided.{Middle, redOfCr, blueOfCb, greenOfCb, greenOfCr, startsAt, Unclipped}
+use Rattle.numbers.specs.Rounding.{clippedTo}
 use Rattle.lumachroma.proofs.Quotient.{clipped-at}
 use Rattle.lumachroma.proofs.Back.{red-unclipped, green-unclipped, blue-unclipped, together, is-code}
 use borrow.Author.Needs.{needs}
@@ -18,19 +19,19 @@ use Rattle.lumachroma.proofs.to_rgb.Tie as tie
 
 -- The channels at the middle code that the code has worked out.
 module _ (d : Depth) (p : Pixel) (m : ℕ) (e : m ≡ middle (bits d)) where
-  red : clippedAt m (1000 * p .first + 1402 * p .third) (1402 * m) 1000 ≡ redBack (bits d) (p .first) (p .second) (p .third)
+  red : clippedTo (2 * m - 1) (1000 * p .first + 1402 * p .third) (1402 * m) 1000 ≡ redBack (bits d) (p .first) (p .second) (p .third)
   unfolding redBack
-  red = ap (λ (m : ℕ). clippedAt m (1000 * p .first + 1402 * p .third) (1402 * m) 1000) e ∙ clipped-at d _ _ _
+  red = ap (λ (m : ℕ). clippedTo (2 * m - 1) (1000 * p .first + 1402 * p .third) (1402 * m) 1000) e ∙ clipped-at d _ _ _
 
   green :
-      clippedAt m (587000 * p .first + (202008 + 419198) * m) (202008 * p .second + 419198 * p .third) 587000
+      clippedTo (2 * m - 1) (587000 * p .first + (202008 + 419198) * m) (202008 * p .second + 419198 * p .third) 587000
       ≡ greenBack (bits d) (p .first) (p .second) (p .third)
   unfolding greenBack
-  green = ap (λ (m : ℕ). clippedAt m (587000 * p .first + (202008 + 419198) * m) (202008 * p .second + 419198 * p .third) 587000) e ∙ clipped-at d _ _ _
+  green = ap (λ (m : ℕ). clippedTo (2 * m - 1) (587000 * p .first + (202008 + 419198) * m) (202008 * p .second + 419198 * p .third) 587000) e ∙ clipped-at d _ _ _
 
-  blue : clippedAt m (1000 * p .first + 1772 * p .second) (1772 * m) 1000 ≡ blueBack (bits d) (p .first) (p .second) (p .third)
+  blue : clippedTo (2 * m - 1) (1000 * p .first + 1772 * p .second) (1772 * m) 1000 ≡ blueBack (bits d) (p .first) (p .second) (p .third)
   unfolding blueBack
-  blue = ap (λ (m : ℕ). clippedAt m (1000 * p .first + 1772 * p .second) (1772 * m) 1000) e ∙ clipped-at d _ _ _
+  blue = ap (λ (m : ℕ). clippedTo (2 * m - 1) (1000 * p .first + 1772 * p .second) (1772 * m) 1000) e ∙ clipped-at d _ _ _
 
 -- The samples are of 16 bits, and the starts are those of that middle code.
 record Given (p : Pixel) (m : ℕ) (starts : Starts) : Type 0 where

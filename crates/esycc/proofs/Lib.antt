@@ -1,0 +1,5 @@
+pub mod Coded
+pub mod There
+pub mod Back
+pub mod Sycc
+pub mod Pixels

@@ -1,0 +1,34 @@
+-- `esycc::adding_row` meets its contract: the products fit.
+-- Assumes nothing.
+use Prim.Native.Nat.{ℕ, _+_, _*_, _≤_}
+use native.Mathlib.Omega.{arith}
+use native.Mathlib.Nat.{mul-le-mul}
+use Rattle.esycc.specs.HowCounted.{mostShare}
+use borrow.Author.Needs.{needs}
+use Rattle.esycc.proofs.adding_row.Statement.{statement}
+use Rattle.esycc.proofs.adding_row.Tie as tie
+
+products : (c : tie.Start) → (c .args .cb * c .args .grey ≤ mostShare * 32768) × (c .args .cr * c .args .grey ≤ mostShare * 32768)
+products c =
+    let cb : c .args .cb ≤ mostShare = omega (arith, c .pre) in
+    let cr : c .args .cr ≤ mostShare = omega (arith, c .pre) in
+    let grey : c .args .grey ≤ 32768 = omega (arith, c .pre) in
+    (mul-le-mul cb grey, mul-le-mul cr grey)
+
+mul-t4 : tie.Need-mul-t4
+mul-t4 c = omega (arith, products c)
+
+mul-t5 : tie.Need-mul-t5
+mul-t5 c = omega (arith, products c)
+
+add-t6 : tie.Need-add-t6
+add-t6 c = omega (arith, products c)
+
+sub-t7 : tie.Need-sub-t7
+sub-t7 c = omega (arith, products c)
+
+returns : tie.Need-returns
+returns c = search needs
+
+pub adding-row-spec : {M : Type 1} → statement M
+adding-row-spec = tie.close (tie.spec mul-t4 mul-t5 add-t6 sub-t7 returns)

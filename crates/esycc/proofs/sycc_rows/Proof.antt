@@ -1,0 +1,50 @@
+-- `esycc::sycc_rows` meets its contract: each arm names the numbers of its depth.
+-- Assumes nothing.
+use mathlib.Core.Path.{sym, ap, _∙_}
+use Rattle.esrgb.specs.declared.Depth.{Depth}
+use Rattle.esrgb.specs.Depths.{bits, step}
+use Rattle.esycc.specs.HowCounted.{rowsBy}
+use borrow.Author.Needs.{needs}
+use Rattle.esycc.proofs.sycc_rows.Statement.{statement}
+use Rattle.esycc.proofs.sycc_rows.Tie as tie
+
+enum-told : tie.Need-enum-told
+enum-told c = search needs
+
+rows-by-requires : tie.Need-rows-by-requires
+rows-by-requires c κs = search needs
+
+enum-told-2 : tie.Need-enum-told-2
+enum-told-2 c = search needs
+
+rows-by-requires-2 : tie.Need-rows-by-requires-2
+rows-by-requires-2 c κs = search needs
+
+enum-told-3 : tie.Need-enum-told-3
+enum-told-3 c = search needs
+
+rows-by-requires-3 : tie.Need-rows-by-requires-3
+rows-by-requires-3 c κs = search needs
+
+returns : tie.Need-returns
+returns c = c .rows-by .ensures ∙ ap (λ (d : Depth). rowsBy (step (bits d)) 40000 255) (sym (c .before .enum-told .given .1))
+
+returns-2 : tie.Need-returns-2
+returns-2 c = c .rows-by2 .ensures ∙ ap (λ (d : Depth). rowsBy (step (bits d)) 40000 255) (sym (c .before .enum-told2 .given .1))
+
+returns-3 : tie.Need-returns-3
+returns-3 c = c .rows-by3 .ensures ∙ ap (λ (d : Depth). rowsBy (step (bits d)) 40000 255) (sym (c .before .enum-told3 .given .1))
+
+pub sycc-rows-spec : {M : Type 1} → statement M
+sycc-rows-spec =
+    tie.close
+    (tie.spec
+    enum-told
+    rows-by-requires
+    enum-told-2
+    rows-by-requires-2
+    enum-told-3
+    rows-by-requires-3
+    returns
+    returns-2
+    returns-3)

@@ -1,0 +1,3 @@
+pub mod Esycc
+pub mod Sycc
+pub mod HowCounted

@@ -12,9 +12,10 @@ use Rattle.records.specs.declared.FrameRecord.{FrameRecord}
 abbrev pub frameLimit : ℕ
 frameLimit = 255
 
--- Rule 7.3: kinds, with their bits.
+-- Rule 7.3: kinds, with their bits. sRGB and sYCC have 8, and e-sRGB, luma and chroma, and e-sYCC have a depth.
 abbrev pub isPair : ℕ → ℕ → Bool
-isPair kind bits = cond (eqb kind 1) (eqb bits 8) (cond (eqb kind 2 || eqb kind 3) (offered bits) false)
+isPair kind bits =
+    cond (eqb kind 1 || eqb kind 5) (eqb bits 8) (cond (eqb kind 2 || (eqb kind 3 || eqb kind 4)) (offered bits) false)
 
 -- Rule 7.4: the greatest width and height, and a side that no frame has.
 abbrev pub sideLimit : ℕ

@@ -220,6 +220,8 @@ fn is_pair(kind: u8, bits: u8) -> bool
         1 => bits == 8,
         2 => is_deep(bits),
         3 => is_deep(bits),
+        4 => is_deep(bits),
+        5 => bits == 8,
         _ => false,
     }
 }

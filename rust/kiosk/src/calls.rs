@@ -3,7 +3,7 @@
 
 #![allow(unsafe_code)]
 
-use crate::Record;
+use crate::{Conversion, Record};
 
 mod c {
     use crate::Record;
@@ -162,32 +162,20 @@ fn placed(call: impl FnOnce(&mut usize) -> i64) -> Given {
     given(answer, place)
 }
 
-fn convert(call: c::Convert, depth: u32, src: &[u8], dst: &mut [u8]) -> Given {
+pub fn convert(conversion: Conversion, src: &[u8], dst: &mut [u8]) -> Given {
     let (s, n, d, m) = (src.as_ptr(), src.len(), dst.as_mut_ptr(), dst.len());
-    // SAFETY: the pointers and lengths are those of two slices that do not overlap, and of a local.
+    let (depth, call): (u32, c::Convert) = match conversion {
+        Conversion::ChangeDepth { from, to } => {
+            // SAFETY: the pointers and lengths are those of two slices that do not overlap, and of a local.
+            return placed(|place| unsafe { c::kiosk_change_depth(from, to, s, n, d, m, place) });
+        }
+        Conversion::FromSrgb { depth } => (depth, c::kiosk_from_srgb),
+        Conversion::ToSrgb { depth } => (depth, c::kiosk_to_srgb),
+        Conversion::ToLumaChroma { depth } => (depth, c::kiosk_to_luma_chroma),
+        Conversion::FromLumaChroma { depth } => (depth, c::kiosk_from_luma_chroma),
+    };
+    // SAFETY: as of a change of depth.
     placed(|place| unsafe { call(depth, s, n, d, m, place) })
-}
-
-pub fn from_srgb(depth: u32, src: &[u8], dst: &mut [u8]) -> Given {
-    convert(c::kiosk_from_srgb, depth, src, dst)
-}
-
-pub fn to_srgb(depth: u32, src: &[u8], dst: &mut [u8]) -> Given {
-    convert(c::kiosk_to_srgb, depth, src, dst)
-}
-
-pub fn change_depth(from: u32, to: u32, src: &[u8], dst: &mut [u8]) -> Given {
-    let (s, n, d, m) = (src.as_ptr(), src.len(), dst.as_mut_ptr(), dst.len());
-    // SAFETY: as of `convert`.
-    placed(|place| unsafe { c::kiosk_change_depth(from, to, s, n, d, m, place) })
-}
-
-pub fn to_luma_chroma(depth: u32, src: &[u8], dst: &mut [u8]) -> Given {
-    convert(c::kiosk_to_luma_chroma, depth, src, dst)
-}
-
-pub fn from_luma_chroma(depth: u32, src: &[u8], dst: &mut [u8]) -> Given {
-    convert(c::kiosk_from_luma_chroma, depth, src, dst)
 }
 
 /// What the two conversions of a round trip give.

@@ -44,13 +44,7 @@ fn counted(given: Given) -> Result<usize, Refusal> {
 
 /// Converts the picture `src` into `dst` and gives its pixel count.
 pub fn convert(conversion: Conversion, src: &[u8], dst: &mut [u8]) -> Result<usize, Refusal> {
-    counted(match conversion {
-        Conversion::FromSrgb { depth } => calls::from_srgb(depth, src, dst),
-        Conversion::ToSrgb { depth } => calls::to_srgb(depth, src, dst),
-        Conversion::ChangeDepth { from, to } => calls::change_depth(from, to, src, dst),
-        Conversion::ToLumaChroma { depth } => calls::to_luma_chroma(depth, src, dst),
-        Conversion::FromLumaChroma { depth } => calls::from_luma_chroma(depth, src, dst),
-    })
+    counted(calls::convert(conversion, src, dst))
 }
 
 /// What the two conversions of a round trip give.

@@ -101,16 +101,15 @@ impl Runs {
     }
 }
 
-/// The comparison in words: at the picture's own depth, and for sRGB at all three.
+/// The comparison in words: at the picture's own depth, and at each depth if it has none.
 pub fn report(from: Form, pixels: &[u8]) -> Result<String, Refusal> {
-    match from {
-        Form::Srgb => [10, 12, 16]
-            .into_iter()
-            .map(|depth| Ok(Runs::of_srgb(depth, pixels)?.report(depth)))
-            .collect(),
-        Form::Esrgb(depth) | Form::LumaChroma(depth) => {
-            let codes = form::codes(from, depth, pixels)?;
-            Ok(Runs::of_codes(depth, codes)?.report(depth))
-        }
-    }
+    let depths = from.depth().map_or(vec![10, 12, 16], |depth| vec![depth]);
+    let runs = |depth| match from {
+        Form::Srgb => Runs::of_srgb(depth, pixels),
+        _ => Runs::of_codes(depth, form::codes(from, depth, pixels)?),
+    };
+    depths
+        .into_iter()
+        .map(|depth| Ok(runs(depth)?.report(depth)))
+        .collect()
 }

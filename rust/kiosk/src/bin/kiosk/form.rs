@@ -17,20 +17,27 @@ pub enum Target {
     Light(u32),
 }
 
+/// The forms, by their words on the command line.
+const FORMS: [(&str, Form); 7] = [
+    ("srgb", Form::Srgb),
+    ("esrgb10", Form::Esrgb(10)),
+    ("esrgb12", Form::Esrgb(12)),
+    ("esrgb16", Form::Esrgb(16)),
+    ("lumachroma10", Form::LumaChroma(10)),
+    ("lumachroma12", Form::LumaChroma(12)),
+    ("lumachroma16", Form::LumaChroma(16)),
+];
+
 impl Target {
     /// The target of a word on the command line.
     pub fn named(word: &str) -> Option<Target> {
         match word {
-            "srgb" => Some(Target::Picture(Form::Srgb)),
-            "esrgb10" => Some(Target::Picture(Form::Esrgb(10))),
-            "esrgb12" => Some(Target::Picture(Form::Esrgb(12))),
-            "esrgb16" => Some(Target::Picture(Form::Esrgb(16))),
-            "lumachroma10" => Some(Target::Picture(Form::LumaChroma(10))),
-            "lumachroma12" => Some(Target::Picture(Form::LumaChroma(12))),
-            "lumachroma16" => Some(Target::Picture(Form::LumaChroma(16))),
             "light10" => Some(Target::Light(10)),
             "light12" => Some(Target::Light(12)),
-            _ => None,
+            _ => {
+                let (_, form) = FORMS.into_iter().find(|(name, _)| *name == word)?;
+                Some(Target::Picture(form))
+            }
         }
     }
 }
@@ -38,25 +45,32 @@ impl Target {
 impl Form {
     /// The form of a frame. Finding a frame has checked its kind and bits, so it is one of these.
     pub fn of(record: &Record) -> Result<Form, Refusal> {
-        let bits = u32::from(record.bits);
-        match (record.kind, bits) {
-            (1, 8) => Ok(Form::Srgb),
-            (2, 10 | 12 | 16) => Ok(Form::Esrgb(bits)),
-            (3, 10 | 12 | 16) => Ok(Form::LumaChroma(bits)),
-            _ => Err(Refusal {
+        FORMS
+            .into_iter()
+            .map(|(_, form)| form)
+            .find(|form| form.kind_and_bits() == (record.kind, record.bits))
+            .ok_or(Refusal {
                 fault: Fault::UnknownKind,
                 place: None,
-            }),
+            })
+    }
+
+    /// The depth that the form itself has.
+    pub fn depth(self) -> Option<u32> {
+        match self {
+            Form::Srgb => None,
+            Form::Esrgb(depth) | Form::LumaChroma(depth) => Some(depth),
         }
     }
 
     /// The kind and bits that a record has for this form.
     fn kind_and_bits(self) -> (u8, u8) {
-        match self {
-            Form::Srgb => (1, 8),
-            Form::Esrgb(depth) => (2, depth as u8),
-            Form::LumaChroma(depth) => (3, depth as u8),
-        }
+        let kind = match self {
+            Form::Srgb => 1,
+            Form::Esrgb(_) => 2,
+            Form::LumaChroma(_) => 3,
+        };
+        (kind, self.depth().unwrap_or(8) as u8)
     }
 }
 
@@ -79,25 +93,19 @@ pub fn codes(from: Form, depth: u32, pixels: &[u8]) -> Result<Vec<u8>, Refusal> 
     }
 }
 
-/// A picture of one form in another, by the conversions that the library has (rule 4.1).
+/// A picture of one form in another, by the conversions that the library has (rule 4.1): to e-sRGB codes, and from
+/// these to the other form. The codes have the depth of the form that is asked for, or else that of the picture.
 pub fn converted(from: Form, to: Form, pixels: &[u8]) -> Result<Vec<u8>, Refusal> {
-    match (from, to) {
-        (Form::Srgb, Form::Srgb) => Ok(pixels.to_vec()),
-        // The same luma and chroma, since there and back again would change them; the samples are judged.
-        (Form::LumaChroma(depth), Form::LumaChroma(same)) if depth == same => {
-            convert(Conversion::FromLumaChroma { depth }, pixels)?;
-            Ok(pixels.to_vec())
-        }
-        (Form::Srgb | Form::Esrgb(_) | Form::LumaChroma(_), Form::Esrgb(depth)) => {
-            codes(from, depth, pixels)
-        }
-        (Form::Esrgb(depth) | Form::LumaChroma(depth), Form::Srgb) => {
-            convert(Conversion::ToSrgb { depth }, &codes(from, depth, pixels)?)
-        }
-        (Form::Srgb | Form::Esrgb(_) | Form::LumaChroma(_), Form::LumaChroma(depth)) => convert(
-            Conversion::ToLumaChroma { depth },
-            &codes(from, depth, pixels)?,
-        ),
+    let depth = to.depth().or(from.depth()).unwrap_or(16);
+    let codes = codes(from, depth, pixels)?;
+    if from == to {
+        // The same samples, since there and back again would change some. Their codes have shown that they are sound.
+        return Ok(pixels.to_vec());
+    }
+    match to {
+        Form::Srgb => convert(Conversion::ToSrgb { depth }, &codes),
+        Form::Esrgb(_) => Ok(codes),
+        Form::LumaChroma(_) => convert(Conversion::ToLumaChroma { depth }, &codes),
     }
 }
 

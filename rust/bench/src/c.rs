@@ -5,11 +5,12 @@
 
 use kiosk::{Conversion, Tint};
 
-/// Declares a version's conversions, and makes a Convert of them.
-macro_rules! convert_by {
-    ($version:ident: $from_srgb:ident, $to_srgb:ident, $change_depth:ident, $to_luma_chroma:ident, $from_luma_chroma:ident) => {
-        convert_by!(declare $from_srgb $to_srgb $to_luma_chroma $from_luma_chroma);
+/// A version's Convert: its answer, or none for a conversion that it does not have.
+pub type Convert = fn(Conversion, &[u8], &mut [u8]) -> Option<i64>;
 
+/// Declares a version's conversions, and makes a Convert of them. What a version lacks is named.
+macro_rules! convert_by {
+    ($version:ident: $change_depth:ident, $($conversion:ident $name:ident),* $(; lacks $($lacking:ident),*)?) => {
         extern "C" {
             fn $change_depth(
                 from: u32,
@@ -20,31 +21,6 @@ macro_rules! convert_by {
                 dst_len: usize,
                 place: *mut usize,
             ) -> i64;
-        }
-
-        pub fn $version(conversion: Conversion, src: &[u8], dst: &mut [u8]) -> i64 {
-            let mut place = 0;
-            let (s, n, d, m) = (src.as_ptr(), src.len(), dst.as_mut_ptr(), dst.len());
-            // SAFETY: the pointers and lengths are those of two slices that do not overlap, and of a local.
-            unsafe {
-                match conversion {
-                    Conversion::FromSrgb { depth } => $from_srgb(depth, s, n, d, m, &mut place),
-                    Conversion::ToSrgb { depth } => $to_srgb(depth, s, n, d, m, &mut place),
-                    Conversion::ChangeDepth { from, to } => {
-                        $change_depth(from, to, s, n, d, m, &mut place)
-                    }
-                    Conversion::ToLumaChroma { depth } => {
-                        $to_luma_chroma(depth, s, n, d, m, &mut place)
-                    }
-                    Conversion::FromLumaChroma { depth } => {
-                        $from_luma_chroma(depth, s, n, d, m, &mut place)
-                    }
-                }
-            }
-        }
-    };
-    (declare $($name:ident)*) => {
-        extern "C" {
             $(fn $name(
                 depth: u32,
                 src: *const u8,
@@ -54,15 +30,55 @@ macro_rules! convert_by {
                 place: *mut usize,
             ) -> i64;)*
         }
+
+        pub fn $version(conversion: Conversion, src: &[u8], dst: &mut [u8]) -> Option<i64> {
+            let mut place = 0;
+            let (s, n, d, m) = (src.as_ptr(), src.len(), dst.as_mut_ptr(), dst.len());
+            // SAFETY: the pointers and lengths are those of two slices that do not overlap, and of a local.
+            let answer = unsafe {
+                match conversion {
+                    Conversion::ChangeDepth { from, to } => {
+                        $change_depth(from, to, s, n, d, m, &mut place)
+                    }
+                    $(Conversion::$conversion { depth } => $name(depth, s, n, d, m, &mut place),)*
+                    $($(Conversion::$lacking { .. } => return None,)*)?
+                }
+            };
+            Some(answer)
+        }
     };
 }
 
-convert_by!(plain: plain_from_srgb, plain_to_srgb, plain_change_depth, plain_to_luma_chroma, plain_from_luma_chroma);
+convert_by!(
+    plain: plain_change_depth,
+    FromSrgb plain_from_srgb,
+    ToSrgb plain_to_srgb,
+    ToLumaChroma plain_to_luma_chroma,
+    FromLumaChroma plain_from_luma_chroma
+);
 
 #[cfg(target_arch = "x86_64")]
-convert_by!(sse2: sse2_from_srgb, sse2_to_srgb, sse2_change_depth, sse2_to_luma_chroma, sse2_from_luma_chroma);
+convert_by!(
+    sse2: sse2_change_depth,
+    FromSrgb sse2_from_srgb,
+    ToSrgb sse2_to_srgb,
+    ToLumaChroma sse2_to_luma_chroma,
+    FromLumaChroma sse2_from_luma_chroma
+);
 
-convert_by!(before: before_from_srgb, before_to_srgb, before_change_depth, before_to_luma_chroma, before_from_luma_chroma);
+/// Other machines have no SSE2.
+#[cfg(not(target_arch = "x86_64"))]
+pub fn sse2(_: Conversion, _: &[u8], _: &mut [u8]) -> Option<i64> {
+    None
+}
+
+convert_by!(
+    before: before_change_depth,
+    FromSrgb before_from_srgb,
+    ToSrgb before_to_srgb,
+    ToLumaChroma before_to_luma_chroma,
+    FromLumaChroma before_from_luma_chroma
+);
 
 extern "C" {
     fn plain_set_tables(light: *const u32, ten: *const u32, twelve: *const u32);

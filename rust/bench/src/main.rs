@@ -170,35 +170,40 @@ fn any_samples(depth: u32, pixels: usize) -> Vec<u8> {
         .collect()
 }
 
+/// Does a version have a conversion? It then converts an empty picture.
+fn has(version: c::Convert, conversion: Conversion) -> bool {
+    version(conversion, &[], &mut []).is_some()
+}
+
 fn time_conversion(conversion: Conversion, src: &[u8], pixels: usize) -> Times {
     let src = Buffer::source(src);
     let room = conversion.needed(src.len());
-    let library = |dst: &mut [u8]| answer(kiosk::convert(conversion, &src, dst));
-    let plain = |dst: &mut [u8]| c::plain(conversion, &src, dst);
-    #[cfg(target_arch = "x86_64")]
-    let sse2 = |dst: &mut [u8]| c::sse2(conversion, &src, dst);
-    Times::of(
-        pixels,
-        room,
-        &[
-            &library,
-            &plain,
-            #[cfg(target_arch = "x86_64")]
-            &sse2,
-        ],
-    )
+    let src = &src;
+    let library = |dst: &mut [u8]| answer(kiosk::convert(conversion, src, dst));
+    let by = |version: c::Convert| {
+        move |dst: &mut [u8]| version(conversion, src, dst).expect("the version has it")
+    };
+    let (plain, sse2) = (by(c::plain), by(c::sse2));
+    let mut versions: Vec<Version<u8>> = vec![&library, &plain];
+    if has(c::sse2, conversion) {
+        versions.push(&sse2);
+    }
+    Times::of(pixels, room, &versions)
 }
 
-/// A conversion by the library before and by this one, which must write the same bytes.
-fn before_and_after(conversion: Conversion, pixels: usize) -> [f64; 2] {
+/// A conversion by the library before, if it has it, and by this one, which must write the same bytes.
+fn before_and_after(conversion: Conversion, pixels: usize) -> Option<[f64; 2]> {
+    if !has(c::before, conversion) {
+        return None;
+    }
     let src = Buffer::source(&picture(conversion, pixels));
-    let before = |dst: &mut [u8]| c::before(conversion, &src, dst);
+    let before = |dst: &mut [u8]| c::before(conversion, &src, dst).expect("the version has it");
     let after = |dst: &mut [u8]| answer(kiosk::convert(conversion, &src, dst));
     let versions: [Version<u8>; 2] = [&before, &after];
     let mut dst = Buffer::destination(conversion.needed(src.len()));
     agreed(pixels, &mut dst, &versions);
     let times = best(pixels, &mut dst, &versions);
-    [times[0], times[1]]
+    Some([times[0], times[1]])
 }
 
 /// Depth down from 12 bits to 10, in times of depth up from 10 to 12. The two take turns, as versions do.
@@ -342,49 +347,43 @@ impl Operation {
     }
 }
 
+/// Conversions at some depths, and the goal that each has: a name for each depth, and the conversion.
+type Conversions = (f64, &'static [u32], fn(u32) -> (String, Conversion));
+
+const CONVERSIONS: [Conversions; 7] = [
+    (1.1, &[10, 16], |depth| {
+        let name = format!("sRGB to e-sRGB {depth}");
+        (name, Conversion::FromSrgb { depth })
+    }),
+    (0.9, &[10, 12, 16], |depth| {
+        let name = format!("e-sRGB {depth} to sRGB");
+        (name, Conversion::ToSrgb { depth })
+    }),
+    (1.2, &[12], |to| depth_change(10, to)),
+    (1.2, &[10], |to| depth_change(12, to)),
+    (1.2, &[12], |to| depth_change(16, to)),
+    (1.75, &[10, 12, 16], |depth| {
+        let name = format!("luma and chroma {depth}");
+        (name, Conversion::ToLumaChroma { depth })
+    }),
+    (1.0, &[10, 12, 16], |depth| {
+        let name = format!("back to e-sRGB {depth}");
+        (name, Conversion::FromLumaChroma { depth })
+    }),
+];
+
+fn depth_change(from: u32, to: u32) -> (String, Conversion) {
+    let name = format!("e-sRGB {from} to {to}");
+    (name, Conversion::ChangeDepth { from, to })
+}
+
 fn operations() -> Vec<Operation> {
     let operation = |name, goal, call| Operation { name, goal, call };
-    let convert = |name, goal, conversion| operation(name, goal, Call::Convert(conversion));
     let mut all = Vec::new();
-    for depth in [10, 16] {
-        let conversion = Conversion::FromSrgb { depth };
-        all.push(convert(
-            format!("sRGB to e-sRGB {depth}"),
-            Some(1.1),
-            conversion,
-        ));
-    }
-    for depth in [10, 12, 16] {
-        let conversion = Conversion::ToSrgb { depth };
-        all.push(convert(
-            format!("e-sRGB {depth} to sRGB"),
-            Some(0.9),
-            conversion,
-        ));
-    }
-    for (from, to) in [(10, 12), (12, 10), (16, 12)] {
-        let conversion = Conversion::ChangeDepth { from, to };
-        all.push(convert(
-            format!("e-sRGB {from} to {to}"),
-            Some(1.2),
-            conversion,
-        ));
-    }
-    for depth in [10, 12, 16] {
-        let conversion = Conversion::ToLumaChroma { depth };
-        all.push(convert(
-            format!("luma and chroma {depth}"),
-            Some(1.75),
-            conversion,
-        ));
-    }
-    for depth in [10, 12, 16] {
-        let conversion = Conversion::FromLumaChroma { depth };
-        all.push(convert(
-            format!("back to e-sRGB {depth}"),
-            Some(1.0),
-            conversion,
-        ));
+    for (goal, depths, of_depth) in CONVERSIONS {
+        for (name, conversion) in depths.iter().copied().map(of_depth) {
+            all.push(operation(name, Some(goal), Call::Convert(conversion)));
+        }
     }
     all.push(operation(
         "back 10, any colours".into(),
@@ -452,7 +451,7 @@ fn compare(operations: &[Operation], sizes: &[usize]) {
     }
 }
 
-/// Times every conversion by the library before and by this one.
+/// Times every conversion that the library before has, by it and by this one.
 fn compare_with_before(operations: &[Operation], sizes: &[usize]) {
     println!("ns a pixel, the best of 11 to 101 rounds, checks of the input included");
     println!(
@@ -461,8 +460,10 @@ fn compare_with_before(operations: &[Operation], sizes: &[usize]) {
     );
     for &pixels in sizes {
         for operation in operations {
-            if let Call::Convert(conversion) = operation.call {
-                let [before, after] = before_and_after(conversion, pixels);
+            let Call::Convert(conversion) = operation.call else {
+                continue;
+            };
+            if let Some([before, after]) = before_and_after(conversion, pixels) {
                 let (name, ratio) = (&operation.name, after / before);
                 println!("{name:<20} {pixels:>9} {before:>8.3} {after:>8.3} {ratio:>14.2}");
             }
@@ -522,6 +523,8 @@ mod tests {
                 | Conversion::FromLumaChroma { depth } => any_samples(depth, 81),
             };
             let sources = [picture(conversion, 81), any];
+            let mut versions: Vec<c::Convert> = vec![c::plain, c::sse2, c::before];
+            versions.retain(|&version| has(version, conversion));
             for (source, len) in sources
                 .iter()
                 .flat_map(|s| (0..=241).map(move |len| (s, len)))
@@ -539,15 +542,11 @@ mod tests {
                     Err(refusal) => -i64::from(refusal.fault.number()),
                 };
                 refused += usize::from(expected < 0);
-                let same = |version: fn(Conversion, &[u8], &mut [u8]) -> i64| {
+                for version in &versions {
                     let mut other = vec![7; room];
-                    assert_eq!(version(conversion, &src, &mut other), expected);
+                    assert_eq!(version(conversion, &src, &mut other), Some(expected));
                     assert!(other == dst, "{conversion:?} of {len} bytes");
-                };
-                same(c::plain);
-                same(c::before);
-                #[cfg(target_arch = "x86_64")]
-                same(c::sse2);
+                }
             }
         }
         assert!(refused > 100, "only {refused} sources were refused");

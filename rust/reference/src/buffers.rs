@@ -18,7 +18,8 @@ impl Form {
         }
     }
 
-    fn bits(self) -> u32 {
+    /// The bits of a sample.
+    pub fn bits(self) -> u32 {
         match self {
             Form::Srgb => 8,
             Form::Esrgb(depth) | Form::LumaChroma(depth) => depth,

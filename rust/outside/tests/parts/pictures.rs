@@ -118,21 +118,26 @@ fn edges(depth: u32) -> Vec<i64> {
     edges
 }
 
+/// The samples of all pixels whose channels are edges.
+fn corners(depth: u32) -> Vec<i64> {
+    let edges = edges(depth);
+    let mut corners = Vec::new();
+    for &a in &edges {
+        for &b in &edges {
+            for &c in &edges {
+                corners.extend([a, b, c]);
+            }
+        }
+    }
+    corners
+}
+
 /// Pixels of codes, and of luma and chroma: all combinations of edges, and random ones.
 pub fn pixels_with_edges() -> u64 {
     let mut random = Random::new(1);
     let mut count = 0;
     for depth in DEPTHS {
         let top = samples::greatest(depth);
-        let edges = edges(depth);
-        let mut corners = Vec::new();
-        for &a in &edges {
-            for &b in &edges {
-                for &c in &edges {
-                    corners.extend([a, b, c]);
-                }
-            }
-        }
         // Chroma has no code 0.
         let mut check = |samples: &[i64]| {
             let codes = wide(samples.iter().copied());
@@ -164,7 +169,7 @@ pub fn pixels_with_edges() -> u64 {
             assert_eq!(trip.again, Ok(samples.len() / 3));
             assert_eq!((there, read(&again, 2)), (ycc, back));
         };
-        check(&corners);
+        check(&corners(depth));
         for _ in 0..32 {
             let samples: Vec<i64> = (0..3 * 65_536)
                 .map(|_| random.below(top as u64 + 1) as i64)
@@ -182,6 +187,14 @@ pub fn pixels_with_edges() -> u64 {
     }
     count
 }
+
+/// The conversions that name one depth.
+const OF_ONE_DEPTH: [fn(u32) -> Conversion; 4] = [
+    Conversion::FromSrgb,
+    Conversion::ToSrgb,
+    Conversion::ToLumaChroma,
+    Conversion::FromLumaChroma,
+];
 
 /// Depths to ask for, offered and others.
 const ANY_DEPTH: [u32; 15] = [
@@ -214,44 +227,50 @@ fn convert_by_both(conversion: Conversion, src: &[u8], before: &[u8]) -> Option<
     .0
 }
 
+/// Any conversion, of any depths.
+fn any_conversion(random: &mut Random) -> Conversion {
+    let depth = random.pick(&ANY_DEPTH);
+    match random.below(OF_ONE_DEPTH.len() as u64 + 1) {
+        0 => Conversion::ChangeDepth(depth, random.pick(&ANY_DEPTH)),
+        _ => random.pick(&OF_ONE_DEPTH)(depth),
+    }
+}
+
+/// A few pixels of a form, with a sample at fault, sometimes two, and sometimes a length that is not whole.
+fn faulty_source(form: Form, random: &mut Random) -> Vec<u8> {
+    let samples = 3 * random.below(6) as usize;
+    let mut src = if form.width() == 1 {
+        random.bytes(samples)
+    } else {
+        let codes = if samples::offered(form.bits()) {
+            1 << form.bits()
+        } else {
+            65_536
+        };
+        wide((0..samples).map(|_| random.below(codes) as i64))
+    };
+    for _ in 0..random.below(3) {
+        if !src.is_empty() {
+            let k = random.below(src.len() as u64) as usize & !1;
+            for byte in src.iter_mut().skip(k).take(2) {
+                *byte = random.pick(&[0, 0, 1, 3, 4, 15, 16, 255]);
+            }
+        }
+    }
+    if random.below(8) == 0 {
+        src.truncate(random.below(src.len() as u64 + 1) as usize);
+    }
+    src
+}
+
 /// Short buffers of any length and depth, with faults: answers, places and every byte against the reference.
 pub fn refusals() -> u64 {
+    const CALLS: u64 = 400_000;
     let mut random = Random::new(2);
-    let mut count = 0;
-    for _ in 0..400_000 {
-        let (n, m) = (random.pick(&ANY_DEPTH), random.pick(&ANY_DEPTH));
-        let conversion = random.pick(&[
-            Conversion::FromSrgb(n),
-            Conversion::ToSrgb(n),
-            Conversion::ChangeDepth(n, m),
-            Conversion::ToLumaChroma(n),
-            Conversion::FromLumaChroma(n),
-        ]);
+    for _ in 0..CALLS {
+        let conversion = any_conversion(&mut random);
         let (from, to) = (conversion.source(), conversion.target());
-        let pixels = random.below(6) as usize;
-        let mut src = match from {
-            Form::Srgb => random.bytes(3 * pixels),
-            Form::Esrgb(depth) | Form::LumaChroma(depth) => {
-                let top = if samples::offered(depth) {
-                    samples::greatest(depth)
-                } else {
-                    65_535
-                };
-                wide((0..3 * pixels).map(|_| random.below(top as u64 + 1) as i64))
-            }
-        };
-        // A sample at fault, sometimes two, and sometimes a length that is not whole.
-        for _ in 0..random.below(3) {
-            if !src.is_empty() {
-                let k = random.below(src.len() as u64) as usize & !1;
-                for byte in src.iter_mut().skip(k).take(2) {
-                    *byte = random.pick(&[0, 0, 1, 3, 4, 15, 16, 255]);
-                }
-            }
-        }
-        if random.below(8) == 0 {
-            src.truncate(random.below(src.len() as u64 + 1) as usize);
-        }
+        let src = faulty_source(from, &mut random);
         let needed = src.len() / (3 * from.width()) * 3 * to.width();
         let room = match random.below(8) {
             0 => random.below(40) as usize,
@@ -259,9 +278,8 @@ pub fn refusals() -> u64 {
             _ => needed,
         };
         convert_by_both(conversion, &src, &random.bytes(room));
-        count += 1;
     }
-    count
+    CALLS
 }
 
 /// Every conversion at every depth offered, from sources of 0 to 40 bytes into destinations of every length up to what
@@ -282,18 +300,17 @@ pub fn every_length() -> u64 {
             }
         }
         let mut numbers = vec![11, 16];
-        match conversion.source() {
-            Form::Srgb => {}
-            Form::Esrgb(16) | Form::LumaChroma(16) => numbers.push(10),
-            Form::Esrgb(_) | Form::LumaChroma(_) => numbers.extend([10, 12]),
+        match conversion.source().bits() {
+            8 => {}
+            16 => numbers.push(10),
+            _ => numbers.extend([10, 12]),
         }
         assert_eq!(refused, BTreeSet::from_iter(numbers), "{conversion:?}");
     };
     for depth in DEPTHS {
-        check(Conversion::FromSrgb(depth));
-        check(Conversion::ToSrgb(depth));
-        check(Conversion::ToLumaChroma(depth));
-        check(Conversion::FromLumaChroma(depth));
+        for conversion in OF_ONE_DEPTH {
+            check(conversion(depth));
+        }
         for to in DEPTHS {
             check(Conversion::ChangeDepth(depth, to));
         }

@@ -61,9 +61,11 @@ enum kiosk_refusal {
 
 /* What a frame's pixels are (rule 7.3). */
 enum kiosk_kind {
-    KIOSK_SRGB = 1,       /* 8 bits */
-    KIOSK_ESRGB = 2,      /* 10, 12 or 16 bits */
-    KIOSK_LUMA_CHROMA = 3 /* 10, 12 or 16 bits: luma, blue chroma, red chroma */
+    KIOSK_SRGB = 1,        /* 8 bits */
+    KIOSK_ESRGB = 2,       /* 10, 12 or 16 bits */
+    KIOSK_LUMA_CHROMA = 3, /* 10, 12 or 16 bits: luma, blue chroma, red chroma */
+    KIOSK_ESYCC = 4,       /* 10, 12 or 16 bits: the standard's e-sYCC, in the same order */
+    KIOSK_SYCC = 5         /* 8 bits: the standard's sRGB YCC, in the same order */
 };
 
 /* A frame's record, with the 16 bytes that it has in a spool file: the machine is little-endian. */
@@ -78,7 +80,8 @@ struct kiosk_record {
 };
 
 /* ---- Pictures (rule 4). Conversions give the pixel count, or refuse with 9, 10, 16, 11, 12 or 13, in the
- * order of rule 4.2. Of 8-bit sRGB any length is whole samples: 16, and never 10. ---- */
+ * order of rule 4.2. Of 8-bit sRGB and sYCC any length is whole samples: 16, and never 10; nor do their
+ * samples get 12. Only luma and chroma get 13. ---- */
 
 /* Converts 8-bit sRGB to e-sRGB of the given depth. */
 int64_t kiosk_from_srgb(uint32_t depth, const uint8_t *src, size_t src_len,
@@ -100,6 +103,23 @@ int64_t kiosk_to_luma_chroma(uint32_t depth, const uint8_t *src, size_t src_len,
 /* Converts luma and chroma back to e-sRGB of the same depth. Chroma of code 0 is refused with 13. */
 int64_t kiosk_from_luma_chroma(uint32_t depth, const uint8_t *src, size_t src_len,
                                uint8_t *dst, size_t dst_len, size_t *place);
+
+/* Converts e-sRGB to e-sYCC of the same depth, clipping what it does not hold. */
+int64_t kiosk_to_esycc(uint32_t depth, const uint8_t *src, size_t src_len,
+                       uint8_t *dst, size_t dst_len, size_t *place);
+
+/* Converts e-sYCC to e-sRGB of the same depth, clipping what it does not hold. Any chroma is accepted, 0 too. */
+int64_t kiosk_from_esycc(uint32_t depth, const uint8_t *src, size_t src_len,
+                         uint8_t *dst, size_t dst_len, size_t *place);
+
+/* Converts e-sRGB of the given depth to sYCC, which has 8 bits, clipping what it does not hold. */
+int64_t kiosk_to_sycc(uint32_t depth, const uint8_t *src, size_t src_len,
+                      uint8_t *dst, size_t dst_len, size_t *place);
+
+/* Converts sYCC, which has 8 bits, to e-sRGB of the given depth, clipping what it does not hold. Any bytes are
+ * accepted. A grey does not come back from sYCC as a grey: the standard adds 128 to chroma, and takes 127.5 off. */
+int64_t kiosk_from_sycc(uint32_t depth, const uint8_t *src, size_t src_len,
+                        uint8_t *dst, size_t dst_len, size_t *place);
 
 /* Two conversions (rule 5.1): e-sRGB to luma and chroma in `ycc`, and `ycc` back to e-sRGB in `back`.
  * Returns the first one's answer; *again gets the second's, and each has a place of its own. Where

@@ -186,6 +186,148 @@ int64_t plain_from_luma_chroma(uint32_t depth, const uint8_t *src, size_t src_le
     return (int64_t)(src_len / 6);
 }
 
+/* ---- e-sYCC and sYCC. Each loop is compiled for each depth, so that what it divides by is a constant ---- */
+
+typedef void pixel_loop(uint32_t depth, const uint8_t *src, size_t pixels, uint8_t *dst);
+
+static inline void at_depth(pixel_loop loop, uint32_t depth, const uint8_t *src, size_t pixels, uint8_t *dst)
+{
+    switch (depth) {
+    case 10:
+        loop(10, src, pixels, dst);
+        break;
+    case 12:
+        loop(12, src, pixels, dst);
+        break;
+    default:
+        loop(16, src, pixels, dst);
+    }
+}
+
+/* The level of a code, and that of reference white. */
+static inline int64_t level(uint32_t depth, const uint8_t *src, size_t k)
+{
+    return (int64_t)sample(src, k) - (3 << (depth - 3));
+}
+
+static inline int64_t scale(uint32_t depth)
+{
+    return 255 << (depth - 9);
+}
+
+/* The luma of three levels in thousandths; and how far blue and red are above it. */
+struct ycc {
+    int64_t y, blue, red;
+};
+
+static inline struct ycc ycc_of(uint32_t depth, const uint8_t *src, size_t k)
+{
+    int64_t r = level(depth, src, k), g = level(depth, src, k + 1), b = level(depth, src, k + 2);
+    struct ycc ycc = {299 * r + 587 * g + 114 * b, -299 * r - 587 * g + 886 * b,
+                      701 * r - 587 * g - 114 * b};
+    return ycc;
+}
+
+static inline void to_esycc(uint32_t depth, const uint8_t *src, size_t pixels, uint8_t *dst)
+{
+    const int64_t top = (1 << depth) - 1, middle = 1 << (depth - 1), white = scale(depth);
+    for (size_t k = 0; k < 3 * pixels; k += 3) {
+        struct ycc ycc = ycc_of(depth, src, k);
+        put(dst, k, code_of(top * ycc.y, 1000 * white, (uint32_t)top));
+        put(dst, k + 1, code_of(top * ycc.blue + middle * 3544 * white, 3544 * white, (uint32_t)top));
+        put(dst, k + 2, code_of(top * ycc.red + middle * 2804 * white, 2804 * white, (uint32_t)top));
+    }
+}
+
+static inline int64_t clip(int64_t x, int64_t limit)
+{
+    return x < -limit ? -limit : x > limit ? limit : x;
+}
+
+/* Chroma is clipped to half of white's range on either side, 1772 / 2 and 1402 / 2, before it is made a byte. */
+static inline void to_sycc(uint32_t depth, const uint8_t *src, size_t pixels, uint8_t *dst)
+{
+    const int64_t white = scale(depth);
+    for (size_t k = 0; k < 3 * pixels; k += 3) {
+        struct ycc ycc = ycc_of(depth, src, k);
+        int64_t blue = clip(ycc.blue, 886 * white), red = clip(ycc.red, 701 * white);
+        dst[k] = (uint8_t)code_of(255 * ycc.y, 1000 * white, 255);
+        dst[k + 1] = (uint8_t)code_of(255 * blue + 128 * 1772 * white, 1772 * white, 255);
+        dst[k + 2] = (uint8_t)code_of(255 * red + 128 * 1402 * white, 1402 * white, 255);
+    }
+}
+
+/* Writes three codes: the standard's matrix, in ten-thousandths, times num over den, from the offset on. */
+static inline void put_codes(uint32_t depth, uint8_t *dst, size_t k, struct ycc ycc, int64_t num, int64_t den)
+{
+    const uint32_t top = (1u << depth) - 1;
+    const int64_t offset = (3 << (depth - 3)) * den;
+    put(dst, k, code_of(num * (10000 * ycc.y + 28040 * ycc.red) + offset, den, top));
+    put(dst, k + 1, code_of(num * (10000 * ycc.y - 6882 * ycc.blue - 14282 * ycc.red) + offset, den, top));
+    put(dst, k + 2, code_of(num * (10000 * ycc.y + 35440 * ycc.blue + 3 * ycc.red) + offset, den, top));
+}
+
+static inline void from_esycc(uint32_t depth, const uint8_t *src, size_t pixels, uint8_t *dst)
+{
+    const int64_t top = (1 << depth) - 1, middle = 1 << (depth - 1);
+    for (size_t k = 0; k < 3 * pixels; k += 3) {
+        struct ycc ycc = {sample(src, k), (int64_t)sample(src, k + 1) - middle,
+                          (int64_t)sample(src, k + 2) - middle};
+        put_codes(depth, dst, k, ycc, scale(depth), 10000 * top);
+    }
+}
+
+/* In quarters of a 255th: that is what is left of chroma's halves when they are halved. */
+static inline void from_sycc(uint32_t depth, const uint8_t *src, size_t pixels, uint8_t *dst)
+{
+    for (size_t k = 0; k < 3 * pixels; k += 3) {
+        struct ycc ycc = {4 * src[k], 2 * src[k + 1] - 255, 2 * src[k + 2] - 255};
+        put_codes(depth, dst, k, ycc, 1 << (depth - 9), 40000);
+    }
+}
+
+/* Checks a source of two-byte samples and the lengths, and converts. */
+static inline int64_t by_loop(pixel_loop loop, uint32_t depth, const uint8_t *src, size_t src_len,
+                              uint8_t *dst, size_t dst_len, size_t needed, size_t *place)
+{
+    int64_t fault = check_lengths(offered(depth), src_len, 2, dst_len, needed);
+    if (fault == 0)
+        fault = check_codes(depth, src, src_len / 2, place);
+    if (fault < 0)
+        return fault;
+    at_depth(loop, depth, src, src_len / 6, dst);
+    return (int64_t)(src_len / 6);
+}
+
+int64_t plain_to_esycc(uint32_t depth, const uint8_t *src, size_t src_len, uint8_t *dst,
+                       size_t dst_len, size_t *place)
+{
+    return by_loop(to_esycc, depth, src, src_len, dst, dst_len, src_len, place);
+}
+
+int64_t plain_from_esycc(uint32_t depth, const uint8_t *src, size_t src_len, uint8_t *dst,
+                         size_t dst_len, size_t *place)
+{
+    return by_loop(from_esycc, depth, src, src_len, dst, dst_len, src_len, place);
+}
+
+int64_t plain_to_sycc(uint32_t depth, const uint8_t *src, size_t src_len, uint8_t *dst,
+                      size_t dst_len, size_t *place)
+{
+    return by_loop(to_sycc, depth, src, src_len, dst, dst_len, src_len / 2, place);
+}
+
+int64_t plain_from_sycc(uint32_t depth, const uint8_t *src, size_t src_len, uint8_t *dst,
+                        size_t dst_len, size_t *place)
+{
+    (void)place;
+    int64_t fault = check_lengths(offered(depth), src_len, 1, dst_len, 2 * src_len);
+    if (fault < 0)
+        return fault;
+    at_depth(from_sycc, depth, src, src_len / 3, dst);
+    return (int64_t)(src_len / 3);
+}
+
 /* Light of each 12-bit level, and the least light of each level of a depth. */
 static uint32_t lights[2560];
 static uint32_t thresholds10[640], thresholds12[2560];

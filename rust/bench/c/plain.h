@@ -15,6 +15,14 @@ int64_t plain_to_luma_chroma(uint32_t depth, const uint8_t *src, size_t src_len,
                              size_t dst_len, size_t *place);
 int64_t plain_from_luma_chroma(uint32_t depth, const uint8_t *src, size_t src_len, uint8_t *dst,
                                size_t dst_len, size_t *place);
+int64_t plain_to_esycc(uint32_t depth, const uint8_t *src, size_t src_len, uint8_t *dst,
+                       size_t dst_len, size_t *place);
+int64_t plain_from_esycc(uint32_t depth, const uint8_t *src, size_t src_len, uint8_t *dst,
+                         size_t dst_len, size_t *place);
+int64_t plain_to_sycc(uint32_t depth, const uint8_t *src, size_t src_len, uint8_t *dst,
+                      size_t dst_len, size_t *place);
+int64_t plain_from_sycc(uint32_t depth, const uint8_t *src, size_t src_len, uint8_t *dst,
+                        size_t dst_len, size_t *place);
 int64_t plain_code_to_light(uint32_t depth, const uint8_t *src, size_t src_len, int32_t *dst,
                             size_t dst_len, size_t *place);
 int64_t plain_light_to_code(uint32_t depth, const int32_t *src, size_t src_len, uint8_t *dst,

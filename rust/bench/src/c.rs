@@ -54,7 +54,11 @@ convert_by!(
     FromSrgb plain_from_srgb,
     ToSrgb plain_to_srgb,
     ToLumaChroma plain_to_luma_chroma,
-    FromLumaChroma plain_from_luma_chroma
+    FromLumaChroma plain_from_luma_chroma,
+    ToEsycc plain_to_esycc,
+    FromEsycc plain_from_esycc,
+    ToSycc plain_to_sycc,
+    FromSycc plain_from_sycc
 );
 
 #[cfg(target_arch = "x86_64")]
@@ -63,7 +67,8 @@ convert_by!(
     FromSrgb sse2_from_srgb,
     ToSrgb sse2_to_srgb,
     ToLumaChroma sse2_to_luma_chroma,
-    FromLumaChroma sse2_from_luma_chroma
+    FromLumaChroma sse2_from_luma_chroma;
+    lacks ToEsycc, FromEsycc, ToSycc, FromSycc
 );
 
 /// Other machines have no SSE2.
@@ -77,7 +82,8 @@ convert_by!(
     FromSrgb before_from_srgb,
     ToSrgb before_to_srgb,
     ToLumaChroma before_to_luma_chroma,
-    FromLumaChroma before_from_luma_chroma
+    FromLumaChroma before_from_luma_chroma;
+    lacks ToEsycc, FromEsycc, ToSycc, FromSycc
 );
 
 extern "C" {

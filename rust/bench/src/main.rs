@@ -142,15 +142,19 @@ fn picture(conversion: Conversion, pixels: usize) -> Vec<u8> {
         dst
     };
     let srgb = photograph(pixels);
+    let codes = |depth, srgb| step(Conversion::FromSrgb { depth }, srgb);
     match conversion {
         Conversion::FromSrgb { .. } => srgb,
         Conversion::ToSrgb { depth }
         | Conversion::ChangeDepth { from: depth, .. }
-        | Conversion::ToLumaChroma { depth } => step(Conversion::FromSrgb { depth }, srgb),
-        Conversion::FromLumaChroma { depth } => step(
-            Conversion::ToLumaChroma { depth },
-            step(Conversion::FromSrgb { depth }, srgb),
-        ),
+        | Conversion::ToLumaChroma { depth }
+        | Conversion::ToEsycc { depth }
+        | Conversion::ToSycc { depth } => codes(depth, srgb),
+        Conversion::FromLumaChroma { depth } => {
+            step(Conversion::ToLumaChroma { depth }, codes(depth, srgb))
+        }
+        Conversion::FromEsycc { depth } => step(Conversion::ToEsycc { depth }, codes(depth, srgb)),
+        Conversion::FromSycc { depth } => step(Conversion::ToSycc { depth }, codes(depth, srgb)),
     }
 }
 
@@ -350,7 +354,7 @@ impl Operation {
 /// Conversions at some depths, and the goal that each has: a name for each depth, and the conversion.
 type Conversions = (f64, &'static [u32], fn(u32) -> (String, Conversion));
 
-const CONVERSIONS: [Conversions; 7] = [
+const CONVERSIONS: [Conversions; 11] = [
     (1.1, &[10, 16], |depth| {
         let name = format!("sRGB to e-sRGB {depth}");
         (name, Conversion::FromSrgb { depth })
@@ -369,6 +373,22 @@ const CONVERSIONS: [Conversions; 7] = [
     (1.0, &[10, 12, 16], |depth| {
         let name = format!("back to e-sRGB {depth}");
         (name, Conversion::FromLumaChroma { depth })
+    }),
+    (0.7, &[10, 12, 16], |depth| {
+        let name = format!("e-sRGB {depth} to e-sYCC");
+        (name, Conversion::ToEsycc { depth })
+    }),
+    (0.7, &[10, 12, 16], |depth| {
+        let name = format!("e-sYCC {depth} to e-sRGB");
+        (name, Conversion::FromEsycc { depth })
+    }),
+    (0.7, &[10, 12, 16], |depth| {
+        let name = format!("e-sRGB {depth} to sYCC");
+        (name, Conversion::ToSycc { depth })
+    }),
+    (0.7, &[10, 12, 16], |depth| {
+        let name = format!("sYCC to e-sRGB {depth}");
+        (name, Conversion::FromSycc { depth })
     }),
 ];
 
@@ -516,11 +536,14 @@ mod tests {
                 continue;
             };
             let any = match conversion {
-                Conversion::FromSrgb { .. } => any_samples(16, 81),
+                Conversion::FromSrgb { .. } | Conversion::FromSycc { .. } => any_samples(16, 81),
                 Conversion::ToSrgb { depth }
                 | Conversion::ChangeDepth { from: depth, .. }
                 | Conversion::ToLumaChroma { depth }
-                | Conversion::FromLumaChroma { depth } => any_samples(depth, 81),
+                | Conversion::FromLumaChroma { depth }
+                | Conversion::ToEsycc { depth }
+                | Conversion::FromEsycc { depth }
+                | Conversion::ToSycc { depth } => any_samples(depth, 81),
             };
             let sources = [picture(conversion, 81), any];
             let mut versions: Vec<c::Convert> = vec![c::plain, c::sse2, c::before];

@@ -28,7 +28,12 @@ mod c {
         };
     }
 
-    conversions! { kiosk_from_srgb kiosk_to_srgb kiosk_to_luma_chroma kiosk_from_luma_chroma }
+    conversions! {
+        kiosk_from_srgb kiosk_to_srgb
+        kiosk_to_luma_chroma kiosk_from_luma_chroma
+        kiosk_to_esycc kiosk_from_esycc
+        kiosk_to_sycc kiosk_from_sycc
+    }
 
     /// A tint of doubles.
     pub type Tint = unsafe extern "C" fn(f64, f64, f64, *mut [u16; 3], *mut usize) -> i64;
@@ -173,6 +178,10 @@ pub fn convert(conversion: Conversion, src: &[u8], dst: &mut [u8]) -> Given {
         Conversion::ToSrgb { depth } => (depth, c::kiosk_to_srgb),
         Conversion::ToLumaChroma { depth } => (depth, c::kiosk_to_luma_chroma),
         Conversion::FromLumaChroma { depth } => (depth, c::kiosk_from_luma_chroma),
+        Conversion::ToEsycc { depth } => (depth, c::kiosk_to_esycc),
+        Conversion::FromEsycc { depth } => (depth, c::kiosk_from_esycc),
+        Conversion::ToSycc { depth } => (depth, c::kiosk_to_sycc),
+        Conversion::FromSycc { depth } => (depth, c::kiosk_from_sycc),
     };
     // SAFETY: as of a change of depth.
     placed(|place| unsafe { call(depth, s, n, d, m, place) })

@@ -23,17 +23,27 @@ pub enum Conversion {
     ToLumaChroma { depth: u32 },
     /// Luma and chroma to e-sRGB.
     FromLumaChroma { depth: u32 },
+    /// E-sRGB to e-sYCC of its depth.
+    ToEsycc { depth: u32 },
+    /// E-sYCC to e-sRGB of its depth.
+    FromEsycc { depth: u32 },
+    /// E-sRGB to sYCC, the standard's sRGB YCC of 8 bits.
+    ToSycc { depth: u32 },
+    /// sYCC to e-sRGB. A grey does not come back as a grey.
+    FromSycc { depth: u32 },
 }
 
 impl Conversion {
-    /// The bytes that a destination needs for a source of `bytes` bytes: two-byte samples but for sRGB.
+    /// The bytes that a destination needs for a source of `bytes` bytes: two-byte samples but for sRGB and sYCC.
     pub fn needed(self, bytes: usize) -> usize {
         match self {
-            Conversion::FromSrgb { .. } => bytes.saturating_mul(2),
-            Conversion::ToSrgb { .. } => bytes / 2,
+            Conversion::FromSrgb { .. } | Conversion::FromSycc { .. } => bytes.saturating_mul(2),
+            Conversion::ToSrgb { .. } | Conversion::ToSycc { .. } => bytes / 2,
             Conversion::ChangeDepth { .. }
             | Conversion::ToLumaChroma { .. }
-            | Conversion::FromLumaChroma { .. } => bytes,
+            | Conversion::FromLumaChroma { .. }
+            | Conversion::ToEsycc { .. }
+            | Conversion::FromEsycc { .. } => bytes,
         }
     }
 }
@@ -144,7 +154,7 @@ pub struct Record {
     pub offset: u32,
     pub width: u16,
     pub height: u16,
-    /// 1 sRGB, 2 e-sRGB, 3 luma and chroma.
+    /// 1 sRGB, 2 e-sRGB, 3 luma and chroma, 4 e-sYCC, 5 sYCC.
     pub kind: u8,
     pub bits: u8,
     pub copies: u16,

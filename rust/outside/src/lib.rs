@@ -37,9 +37,24 @@ impl Random {
     }
 }
 
+/// The kinds and bits that go together (rule 7.3).
+pub const PAIRS: [(u8, u8); 11] = [
+    (1, 8),
+    (2, 10),
+    (2, 12),
+    (2, 16),
+    (3, 10),
+    (3, 12),
+    (3, 16),
+    (4, 10),
+    (4, 12),
+    (4, 16),
+    (5, 8),
+];
+
 /// A record that neither 6 nor 7 refuses, of a few pixels.
 pub fn sound_record(random: &mut Random) -> Record {
-    let (kind, bits) = random.pick(&[(1, 8), (2, 10), (2, 12), (2, 16), (3, 10), (3, 12), (3, 16)]);
+    let (kind, bits) = random.pick(&PAIRS);
     Record {
         offset: random.number() as u32,
         width: 1 + random.below(3) as u16,
@@ -116,6 +131,10 @@ pub fn of_library(conversion: Conversion) -> kiosk::Conversion {
         Conversion::ChangeDepth(from, to) => kiosk::Conversion::ChangeDepth { from, to },
         Conversion::ToLumaChroma(depth) => kiosk::Conversion::ToLumaChroma { depth },
         Conversion::FromLumaChroma(depth) => kiosk::Conversion::FromLumaChroma { depth },
+        Conversion::ToEsycc(depth) => kiosk::Conversion::ToEsycc { depth },
+        Conversion::FromEsycc(depth) => kiosk::Conversion::FromEsycc { depth },
+        Conversion::ToSycc(depth) => kiosk::Conversion::ToSycc { depth },
+        Conversion::FromSycc(depth) => kiosk::Conversion::FromSycc { depth },
     }
 }
 

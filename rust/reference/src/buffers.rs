@@ -1,6 +1,6 @@
 //! Convert and light over buffers: the refusals in the order of rules 4.2 and 6.7, then every sample.
 
-use crate::{light, samples, Refusal};
+use crate::{light, samples, ycc, Refusal};
 
 /// What a pixel buffer holds.
 #[derive(Clone, Copy, Debug, PartialEq, Eq)]
@@ -8,21 +8,25 @@ pub enum Form {
     Srgb,
     Esrgb(u32),
     LumaChroma(u32),
+    Esycc(u32),
+    Sycc,
 }
 
 impl Form {
     fn offered(self) -> bool {
         match self {
-            Form::Srgb => true,
-            Form::Esrgb(depth) | Form::LumaChroma(depth) => samples::offered(depth),
+            Form::Srgb | Form::Sycc => true,
+            Form::Esrgb(depth) | Form::LumaChroma(depth) | Form::Esycc(depth) => {
+                samples::offered(depth)
+            }
         }
     }
 
     /// The bits of a sample.
     pub fn bits(self) -> u32 {
         match self {
-            Form::Srgb => 8,
-            Form::Esrgb(depth) | Form::LumaChroma(depth) => depth,
+            Form::Srgb | Form::Sycc => 8,
+            Form::Esrgb(depth) | Form::LumaChroma(depth) | Form::Esycc(depth) => depth,
         }
     }
 
@@ -49,7 +53,7 @@ impl Form {
             .collect()
     }
 
-    /// The first sample at fault, in byte order.
+    /// The first sample at fault, in byte order. Of all forms only luma and chroma have no chroma of 0.
     fn fault(self, samples: &[i64]) -> Option<Refusal> {
         let ycc = matches!(self, Form::LumaChroma(_));
         samples.iter().enumerate().find_map(|(k, &sample)| {
@@ -72,6 +76,10 @@ pub enum Conversion {
     ChangeDepth(u32, u32),
     ToLumaChroma(u32),
     FromLumaChroma(u32),
+    ToEsycc(u32),
+    FromEsycc(u32),
+    ToSycc(u32),
+    FromSycc(u32),
 }
 
 impl Conversion {
@@ -80,8 +88,12 @@ impl Conversion {
             Conversion::FromSrgb(_) => Form::Srgb,
             Conversion::ToSrgb(depth)
             | Conversion::ChangeDepth(depth, _)
-            | Conversion::ToLumaChroma(depth) => Form::Esrgb(depth),
+            | Conversion::ToLumaChroma(depth)
+            | Conversion::ToEsycc(depth)
+            | Conversion::ToSycc(depth) => Form::Esrgb(depth),
             Conversion::FromLumaChroma(depth) => Form::LumaChroma(depth),
+            Conversion::FromEsycc(depth) => Form::Esycc(depth),
+            Conversion::FromSycc(_) => Form::Sycc,
         }
     }
 
@@ -90,8 +102,12 @@ impl Conversion {
             Conversion::ToSrgb(_) => Form::Srgb,
             Conversion::FromSrgb(depth)
             | Conversion::ChangeDepth(_, depth)
-            | Conversion::FromLumaChroma(depth) => Form::Esrgb(depth),
+            | Conversion::FromLumaChroma(depth)
+            | Conversion::FromEsycc(depth)
+            | Conversion::FromSycc(depth) => Form::Esrgb(depth),
             Conversion::ToLumaChroma(depth) => Form::LumaChroma(depth),
+            Conversion::ToEsycc(depth) => Form::Esycc(depth),
+            Conversion::ToSycc(_) => Form::Sycc,
         }
     }
 
@@ -103,6 +119,10 @@ impl Conversion {
             Conversion::ChangeDepth(from, to) => pixel.map(|c| samples::change_depth(from, to, c)),
             Conversion::ToLumaChroma(depth) => samples::to_luma_chroma(depth, pixel),
             Conversion::FromLumaChroma(depth) => samples::from_luma_chroma(depth, pixel),
+            Conversion::ToEsycc(depth) => ycc::to_esycc(depth, pixel),
+            Conversion::FromEsycc(depth) => ycc::from_esycc(depth, pixel),
+            Conversion::ToSycc(depth) => ycc::to_sycc(depth, pixel),
+            Conversion::FromSycc(depth) => ycc::from_sycc(depth, pixel),
         }
     }
 }

@@ -10,6 +10,7 @@ pub mod light;
 pub mod samples;
 pub mod spool;
 pub mod tints;
+pub mod ycc;
 
 /// Why an operation refuses: the number (rule 8), and the place where it has one.
 #[derive(Clone, Copy, Debug, PartialEq, Eq)]

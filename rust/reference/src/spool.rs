@@ -64,7 +64,7 @@ impl Record {
     /// Refusals 6 and 7.
     fn check(&self) -> Result<(), u8> {
         match (self.kind, self.bits) {
-            (1, 8) | (2 | 3, 10 | 12 | 16) => {}
+            (1 | 5, 8) | (2..=4, 10 | 12 | 16) => {}
             _ => return Err(6),
         }
         if [self.width, self.height]

@@ -150,6 +150,10 @@ fn converts_by_every_chain() {
         "lumachroma10",
         "lumachroma12",
         "lumachroma16",
+        "esycc10",
+        "esycc12",
+        "esycc16",
+        "sycc",
     ];
     for frame in ["0", "1"] {
         for form in forms {
@@ -222,6 +226,126 @@ fn brings_codes_to_a_smaller_depth() {
     assert_eq!(raw, [385u16, 385, 1023].map(u16::to_le_bytes).concat());
 }
 
+/// A spool with one frame, in one row.
+fn one_frame(kind: u8, bits: u8, pixels: &[u8]) -> Vec<u8> {
+    let width = pixels.len() / if bits == 8 { 3 } else { 6 };
+    let mut file = vec![1, 0, 7, 0, 12, 0, 0, 0];
+    file.extend((28 + pixels.len() as u32).to_le_bytes());
+    // Behind the header and the record, as one row; one copy, order 1.
+    let record = [[28, 0, 0, 0], [width as u8, 0, 1, 0], [kind, bits, 1, 0]];
+    file.extend(record.concat());
+    file.extend(1u32.to_le_bytes());
+    file.extend(pixels);
+    file
+}
+
+fn wide(samples: &[u16]) -> Vec<u8> {
+    samples.iter().flat_map(|x| x.to_le_bytes()).collect()
+}
+
+/// The pixels of a frame in another form.
+fn raw(folder: &Path, file: &str, form: &str) -> Vec<u8> {
+    let words = [
+        "convert",
+        file,
+        "0",
+        "--to",
+        form,
+        "--raw",
+        "--out",
+        "raw.pixels",
+    ];
+    let done = kiosk(folder, &words);
+    assert!(done.status.success(), "{words:?}: {}", text(&done.stderr));
+    fs::read(folder.join("raw.pixels")).expect("pixels")
+}
+
+/// Red and blue of sRGB, to the standard's YCC and back.
+#[test]
+fn converts_to_esycc_and_sycc() {
+    let folder = with_spool("ycc");
+    for (form, kind_and_bits, pixels) in [
+        ("esycc10", "4 10", wide(&[306, 426, 768, 117, 768, 470])),
+        (
+            "esycc12",
+            "4 12",
+            wide(&[1224, 1703, 3072, 467, 3072, 1882]),
+        ),
+        (
+            "esycc16",
+            "4 16",
+            wide(&[19_595, 27_239, 49_152, 7_471, 49_152, 30_104]),
+        ),
+        ("sycc", "5 8", vec![76, 85, 255, 29, 255, 107]),
+    ] {
+        assert_eq!(raw(&folder, "in.spool", form), pixels, "{form}");
+        let words = ["convert", "in.spool", "0", "--to", form, "--out", form];
+        assert!(kiosk(&folder, &words).status.success());
+        let listed = text(&kiosk(&folder, &["list", form]).stdout);
+        let line = format!("0 501 {kind_and_bits} 2 1 1 28");
+        assert_eq!(listed.lines().nth(1), Some(&line[..]));
+        // To its own form it is copied.
+        assert_eq!(raw(&folder, form, form), pixels, "{form}");
+    }
+    for (form, codes) in [
+        ("esycc10", [894, 384, 385, 384, 384, 895]),
+        ("sycc", [894, 383, 385, 385, 384, 894]),
+    ] {
+        assert_eq!(raw(&folder, form, "esrgb10"), wide(&codes), "{form}");
+    }
+    for file in ["esycc10", "sycc"] {
+        let words = ["preview", file, "0", "--out", "x.png"];
+        assert!(kiosk(&folder, &words).status.success());
+        assert!(has_row(&folder, &[0, 255, 0, 1, 0, 0, 255]), "{file}");
+    }
+    let lines = |file| {
+        text(&kiosk(&folder, &["compare", file, "0"]).stdout)
+            .lines()
+            .count()
+    };
+    assert_eq!((lines("esycc12"), lines("sycc")), (2, 6));
+}
+
+/// To sRGB, sYCC goes by way of 16 bits. By way of 10 this pixel would become (142, 169, 191), of 12 (141, 169, 191).
+#[test]
+fn brings_sycc_to_srgb_by_the_finest_codes() {
+    let folder = folder("finest");
+    fs::write(folder.join("sycc"), one_frame(5, 8, &[163, 143, 112])).expect("written");
+    assert_eq!(raw(&folder, "sycc", "srgb"), [141, 169, 190]);
+}
+
+/// Frames of e-sYCC are judged, also where they are copied; a chroma of 0 is sound, as it is not in luma and chroma.
+#[test]
+fn judges_esycc() {
+    let folder = folder("judged");
+    let file = |name: &str, kind, bits, samples: &[u16]| {
+        let file = one_frame(kind, bits, &wide(samples));
+        fs::write(folder.join(name), file).expect("written");
+    };
+    file("zero", 4, 10, &[0, 0, 0]);
+    assert_eq!(raw(&folder, "zero", "esycc10"), [0; 6]);
+    file("zero3", 3, 10, &[0, 0, 0]);
+    file("great", 4, 10, &[1023, 1023, 1024]);
+    file("bits", 4, 8, &[0, 0, 0]);
+    file("wide", 5, 10, &[0, 0, 0]);
+    for (name, error) in [
+        ("zero3", "refusal 13: a chroma sample has code 0 (byte 2)"),
+        (
+            "great",
+            "refusal 12: a sample is above the greatest of its depth (byte 4)",
+        ),
+        ("bits", "refusal 6: kind and bits are no pair"),
+        ("wide", "refusal 6: kind and bits are no pair"),
+    ] {
+        for form in ["lumachroma10", "esycc10", "sycc", "light12"] {
+            let words = ["convert", name, "0", "--to", form, "--out", "out"];
+            fails(&folder, &words, 1, error);
+        }
+        fails(&folder, &["preview", name, "0", "--out", "out"], 1, error);
+        fails(&folder, &["compare", name, "0"], 1, error);
+    }
+}
+
 #[test]
 fn compares_both_runs() {
     let folder = with_spool("compares");
@@ -267,9 +391,13 @@ fn previews_as_png() {
     assert!(kiosk(&folder, &words).status.success());
     let png = fs::read(folder.join("x.png")).expect("the picture");
     assert_eq!(&png[..8], b"\x89PNG\r\n\x1a\n");
-    // One stored block of one row: no filter, then the pixels.
-    let row = [0, 255, 0, 0, 0, 0, 255];
-    assert!(png.windows(row.len()).any(|window| window == row));
+    assert!(has_row(&folder, &[0, 255, 0, 0, 0, 0, 255]));
+}
+
+/// Does x.png hold a row: a byte for no filter, then the pixels?
+fn has_row(folder: &Path, row: &[u8]) -> bool {
+    let png = fs::read(folder.join("x.png")).expect("the picture");
+    png.windows(row.len()).any(|window| window == row)
 }
 
 /// Rule 10.8, as people write numbers.
@@ -408,12 +536,14 @@ fn bad_input_fails_clearly() {
         2,
         "--to is missing",
     );
-    fails(
-        &folder,
-        &["convert", "in.spool", "0", "--to", "cmyk", "--out", out],
-        2,
-        "cmyk is no form",
-    );
+    for form in ["cmyk", "esycc", "esycc8", "esycc11", "sycc8", "sycc10"] {
+        fails(
+            &folder,
+            &["convert", "in.spool", "0", "--to", form, "--out", out],
+            2,
+            &format!("{form} is no form of a picture"),
+        );
+    }
     fails(
         &folder,
         &["convert", "in.spool", "0", "--to"],

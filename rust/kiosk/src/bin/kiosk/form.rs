@@ -8,7 +8,14 @@ pub enum Form {
     Srgb,
     Esrgb(u32),
     LumaChroma(u32),
+    Esycc(u32),
+    Sycc,
 }
+
+/// The depth of e-sRGB between two forms that have none of their own, sRGB and sYCC. To sYCC every depth gives the same
+/// bytes, since each has sRGB's values exactly. Back, a byte is rounded twice, and the finest codes do least: over all
+/// sYCC pixels one byte in 6 is not the nearest by way of 10 bits, one in 23 by 12, and one in 420 by 16.
+const FINEST: u32 = 16;
 
 /// What a frame can be converted to.
 #[derive(Clone, Copy, Debug, PartialEq, Eq)]
@@ -18,7 +25,7 @@ pub enum Target {
 }
 
 /// The forms, by their words on the command line.
-const FORMS: [(&str, Form); 7] = [
+const FORMS: [(&str, Form); 11] = [
     ("srgb", Form::Srgb),
     ("esrgb10", Form::Esrgb(10)),
     ("esrgb12", Form::Esrgb(12)),
@@ -26,6 +33,10 @@ const FORMS: [(&str, Form); 7] = [
     ("lumachroma10", Form::LumaChroma(10)),
     ("lumachroma12", Form::LumaChroma(12)),
     ("lumachroma16", Form::LumaChroma(16)),
+    ("esycc10", Form::Esycc(10)),
+    ("esycc12", Form::Esycc(12)),
+    ("esycc16", Form::Esycc(16)),
+    ("sycc", Form::Sycc),
 ];
 
 impl Target {
@@ -58,8 +69,8 @@ impl Form {
     /// The depth that the form itself has.
     pub fn depth(self) -> Option<u32> {
         match self {
-            Form::Srgb => None,
-            Form::Esrgb(depth) | Form::LumaChroma(depth) => Some(depth),
+            Form::Srgb | Form::Sycc => None,
+            Form::Esrgb(depth) | Form::LumaChroma(depth) | Form::Esycc(depth) => Some(depth),
         }
     }
 
@@ -69,6 +80,8 @@ impl Form {
             Form::Srgb => 1,
             Form::Esrgb(_) => 2,
             Form::LumaChroma(_) => 3,
+            Form::Esycc(_) => 4,
+            Form::Sycc => 5,
         };
         (kind, self.depth().unwrap_or(8) as u8)
     }
@@ -83,20 +96,23 @@ pub fn convert(conversion: Conversion, src: &[u8]) -> Result<Vec<u8>, Refusal> {
 
 /// E-sRGB codes of a depth, from a picture of any form.
 pub fn codes(from: Form, depth: u32, pixels: &[u8]) -> Result<Vec<u8>, Refusal> {
+    let changed = |from, codes: &[u8]| convert(Conversion::ChangeDepth { from, to: depth }, codes);
     match from {
         Form::Srgb => convert(Conversion::FromSrgb { depth }, pixels),
-        Form::Esrgb(from) => convert(Conversion::ChangeDepth { from, to: depth }, pixels),
-        Form::LumaChroma(from) => {
-            let codes = convert(Conversion::FromLumaChroma { depth: from }, pixels)?;
-            convert(Conversion::ChangeDepth { from, to: depth }, &codes)
-        }
+        Form::Sycc => convert(Conversion::FromSycc { depth }, pixels),
+        Form::Esrgb(own) => changed(own, pixels),
+        Form::LumaChroma(own) => changed(
+            own,
+            &convert(Conversion::FromLumaChroma { depth: own }, pixels)?,
+        ),
+        Form::Esycc(own) => changed(own, &convert(Conversion::FromEsycc { depth: own }, pixels)?),
     }
 }
 
 /// A picture of one form in another, by the conversions that the library has (rule 4.1): to e-sRGB codes, and from
 /// these to the other form. The codes have the depth of the form that is asked for, or else that of the picture.
 pub fn converted(from: Form, to: Form, pixels: &[u8]) -> Result<Vec<u8>, Refusal> {
-    let depth = to.depth().or(from.depth()).unwrap_or(16);
+    let depth = to.depth().or(from.depth()).unwrap_or(FINEST);
     let codes = codes(from, depth, pixels)?;
     if from == to {
         // The same samples, since there and back again would change some. Their codes have shown that they are sound.
@@ -106,6 +122,8 @@ pub fn converted(from: Form, to: Form, pixels: &[u8]) -> Result<Vec<u8>, Refusal
         Form::Srgb => convert(Conversion::ToSrgb { depth }, &codes),
         Form::Esrgb(_) => Ok(codes),
         Form::LumaChroma(_) => convert(Conversion::ToLumaChroma { depth }, &codes),
+        Form::Esycc(_) => convert(Conversion::ToEsycc { depth }, &codes),
+        Form::Sycc => convert(Conversion::ToSycc { depth }, &codes),
     }
 }
 

@@ -29,11 +29,11 @@ list      prints a heading and a line for each frame of a spool file, or a line
           than 65,536 bytes is refused
 convert   writes a spool with the one frame, converted; with --raw only its pixels.
           FORM is srgb, esrgb10, esrgb12, esrgb16, lumachroma10, lumachroma12,
-          lumachroma16, light10 or light12. At a smaller depth a code becomes the
-          nearest. Light is written raw, as signed 32-bit numbers of millionths of
-          reference white, the low byte first
-compare   takes the frame through luma and chroma and back, an sRGB frame at each
-          depth, and says how many channels come back equal, one less or one
+          lumachroma16, esycc10, esycc12, esycc16, sycc, light10 or light12. At a
+          smaller depth a code becomes the nearest. Light is written raw, as signed
+          32-bit numbers of millionths of reference white, the low byte first
+compare   takes the frame through luma and chroma and back, one of sRGB or sYCC at
+          each depth, and says how many channels come back equal, one less or one
           more, also at 8 bits
 preview   writes the frame as an 8-bit PNG picture
 tint      prints a colour as a pixel of 12-bit e-sRGB: three codes from 0 to 4095.

@@ -84,6 +84,67 @@ static void pictures(void)
     CHECK(code_at(back, 1) == 640 && code_at(back, 3) == 894);
 }
 
+/* Does the pixel at sample k hold these three? */
+static int pixel_is(const uint8_t *bytes, size_t k, unsigned first, unsigned second, unsigned third)
+{
+    return code_at(bytes, k) == first && code_at(bytes, k + 1) == second && code_at(bytes, k + 2) == third;
+}
+
+/* Red and blue, and the least blue, which gets a chroma of 0. */
+static void standard_ycc(void)
+{
+    const uint8_t srgb[6] = {255, 0, 0, 0, 0, 255}, sycc[6] = {76, 85, 255, 29, 255, 107};
+    uint8_t codes[12], ycc[12], back[12], eight[6];
+    size_t place = 77;
+
+    CHECK(kiosk_from_srgb(10, srgb, sizeof srgb, codes, sizeof codes, &place) == 2);
+    CHECK(kiosk_to_esycc(10, codes, sizeof codes, ycc, sizeof ycc, &place) == 2);
+    CHECK(pixel_is(ycc, 0, 306, 426, 768) && pixel_is(ycc, 3, 117, 768, 470));
+    CHECK(kiosk_from_esycc(10, ycc, sizeof ycc, back, sizeof back, &place) == 2);
+    CHECK(pixel_is(back, 0, 894, 384, 385) && pixel_is(back, 3, 384, 384, 895));
+    CHECK(kiosk_to_sycc(10, codes, sizeof codes, eight, sizeof eight, &place) == 2);
+    CHECK(memcmp(eight, sycc, sizeof sycc) == 0);
+    CHECK(kiosk_from_sycc(10, eight, sizeof eight, back, sizeof back, &place) == 2);
+    CHECK(pixel_is(back, 0, 894, 383, 385) && pixel_is(back, 3, 385, 384, 894));
+    put_code(codes, 0, 1023);
+    put_code(codes, 1, 1023);
+    put_code(codes, 2, 0);
+    CHECK(kiosk_to_esycc(10, codes, sizeof codes, ycc, sizeof ycc, &place) == 2);
+    CHECK(pixel_is(ycc, 0, 1023, 0, 595));
+    CHECK(kiosk_from_esycc(10, ycc, sizeof ycc, back, sizeof back, &place) == 2);
+    CHECK(place == 77);
+}
+
+static void standard_ycc_refused(void)
+{
+    const uint8_t sycc[6] = {255, 255, 255, 255, 255, 255};
+    uint8_t wide[12], back[12], eight[6];
+    size_t place = 77;
+
+    memset(wide, 3, sizeof wide);
+    memset(back, 1, sizeof back);
+    memset(eight, 1, sizeof eight);
+    CHECK(kiosk_to_esycc(8, wide, 11, back, 1, &place) == -KIOSK_DEPTH_NOT_OFFERED);
+    CHECK(kiosk_from_esycc(10, wide, 11, back, 1, &place) == -KIOSK_NOT_WHOLE_SAMPLES);
+    CHECK(kiosk_to_sycc(10, wide, 10, eight, 1, &place) == -KIOSK_NOT_WHOLE_PIXELS);
+    CHECK(kiosk_to_sycc(10, wide, 12, eight, 5, &place) == -KIOSK_WRONG_DESTINATION_LENGTH);
+    CHECK(kiosk_from_sycc(11, sycc, 5, back, 1, &place) == -KIOSK_DEPTH_NOT_OFFERED);
+    CHECK(kiosk_from_sycc(10, sycc, 5, back, 1, &place) == -KIOSK_NOT_WHOLE_PIXELS);
+    CHECK(kiosk_from_sycc(10, sycc, 6, back, 11, &place) == -KIOSK_WRONG_DESTINATION_LENGTH);
+    CHECK(place == 77);
+    put_code(wide, 4, 1024);
+    CHECK(kiosk_to_esycc(10, wide, sizeof wide, back, sizeof back, &place) == -KIOSK_SAMPLE_TOO_GREAT);
+    CHECK(place == 8);
+    put_code(wide, 3, 1024);
+    CHECK(kiosk_from_esycc(10, wide, sizeof wide, back, sizeof back, &place) == -KIOSK_SAMPLE_TOO_GREAT);
+    CHECK(place == 6);
+    put_code(wide, 2, 1024);
+    CHECK(kiosk_to_sycc(10, wide, sizeof wide, eight, sizeof eight, &place) == -KIOSK_SAMPLE_TOO_GREAT);
+    CHECK(place == 4);
+    CHECK(pixel_is(back, 0, 257, 257, 257) && pixel_is(back, 3, 257, 257, 257));
+    CHECK(eight[0] == 1 && eight[5] == 1);
+}
+
 /* A conversion that is refused leaves its destination, and those behind it convert what it held. */
 static void round_trip_refused(void)
 {
@@ -263,6 +324,32 @@ static void spools(void)
     CHECK(place == 0);
 }
 
+/* The standard's own kinds: with their bits, and refused with others. */
+static void spools_of_standard_ycc(void)
+{
+    struct kiosk_record records[2] = {
+        {0, 1, 1, KIOSK_ESYCC, 16, 1, 501},
+        {0, 1, 1, KIOSK_SYCC, 8, 1, 502},
+    };
+    struct kiosk_record record;
+    uint8_t file[12 + 2 * 16 + 6 + 3];
+    size_t place = 77;
+
+    memset(file, 0x5a, sizeof file);
+    CHECK(kiosk_lay_out(records, 2, 7, file, sizeof file, &place) == (int64_t)sizeof file);
+    CHECK(kiosk_find(file, sizeof file, 0, &record) == 6);
+    CHECK(record.offset == 44 && record.kind == KIOSK_ESYCC && record.bits == 16);
+    CHECK(kiosk_find(file, sizeof file, 1, &record) == 3);
+    CHECK(record.offset == 50 && record.kind == KIOSK_SYCC && record.bits == 8);
+    CHECK(place == 77);
+    records[1].bits = 10;
+    CHECK(kiosk_lay_out(records, 2, 7, file, sizeof file, &place) == -KIOSK_UNKNOWN_KIND);
+    CHECK(place == 1);
+    file[12 + 9] = 8;
+    CHECK(kiosk_find(file, sizeof file, 0, &record) == -KIOSK_UNKNOWN_KIND);
+    CHECK(record.kind == 0);
+}
+
 /* Are the text of a listing, its length and the bytes behind it, which were all 0x5a, as they must be? */
 static int lists(const uint8_t *file, size_t file_len, const char *expected)
 {
@@ -298,11 +385,14 @@ static void listings(void)
 int main(void)
 {
     pictures();
+    standard_ycc();
+    standard_ycc_refused();
     round_trip_refused();
     both_runs();
     light();
     tints();
     spools();
+    spools_of_standard_ycc();
     listings();
     printf("%d checks from C, %d failed\n", checks, failures);
     return failures != 0;

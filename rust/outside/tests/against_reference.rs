@@ -11,7 +11,7 @@ use std::time::Instant;
 /// A part of the tests: what it compares, and the function that gives how many.
 type Part = (&'static str, fn() -> u64);
 
-const PARTS: [Part; 15] = [
+const PARTS: [Part; 20] = [
     (
         "samples: every code of every depth",
         parts::pictures::every_sample,
@@ -23,6 +23,22 @@ const PARTS: [Part; 15] = [
     (
         "e-sRGB pixels and luma and chroma, with edges",
         parts::pictures::pixels_with_edges,
+    ),
+    (
+        "e-sRGB pixels to e-sYCC, with edges and greys",
+        parts::ycc::to_esycc,
+    ),
+    (
+        "e-sYCC pixels to e-sRGB, with edges and greys",
+        parts::ycc::from_esycc,
+    ),
+    (
+        "e-sRGB pixels to sYCC, with edges and greys",
+        parts::ycc::to_sycc,
+    ),
+    (
+        "sYCC pixels to e-sRGB, all 2^24 at three depths",
+        parts::ycc::from_sycc,
     ),
     (
         "calls of Convert: every length from 0 to 40 bytes",
@@ -64,6 +80,10 @@ const PARTS: [Part; 15] = [
     (
         "spools laid out, found, walked, listed, damaged and cut",
         parts::spools::spools,
+    ),
+    (
+        "spools and records of every kind with every number of bits",
+        parts::spools::every_kind_and_bits,
     ),
     (
         "lists of records laid out, with faults",

@@ -2,3 +2,4 @@ pub mod light;
 pub mod pictures;
 pub mod spools;
 pub mod tints;
+pub mod ycc;

@@ -3,11 +3,12 @@
 use outside::{all_guarded, by_both, guarded, of_library, said, Random};
 use reference::buffers::{convert, Conversion, Form};
 use reference::samples;
-use std::collections::BTreeSet;
+use std::collections::{BTreeSet, HashMap};
+use std::mem::discriminant;
 
-const DEPTHS: [u32; 3] = [10, 12, 16];
+pub const DEPTHS: [u32; 3] = [10, 12, 16];
 
-fn wide(samples: impl IntoIterator<Item = i64>) -> Vec<u8> {
+pub fn wide(samples: impl IntoIterator<Item = i64>) -> Vec<u8> {
     samples
         .into_iter()
         .flat_map(|sample| (sample as u16).to_le_bytes())
@@ -22,7 +23,7 @@ fn read(bytes: &[u8], width: usize) -> Vec<i64> {
 }
 
 /// The library's conversion of a sound picture, in a destination that held something else.
-fn converted(conversion: Conversion, src: &[u8]) -> Vec<u8> {
+pub fn converted(conversion: Conversion, src: &[u8]) -> Vec<u8> {
     let pixels = src.len() / (3 * conversion.source().width());
     let before = vec![0x5a; pixels * 3 * conversion.target().width()];
     let (answer, after) = guarded(&before, 0xa5, |dst| {
@@ -33,7 +34,7 @@ fn converted(conversion: Conversion, src: &[u8]) -> Vec<u8> {
 }
 
 /// Compares the library's pixels with the reference's rule, pixel by pixel.
-fn compare(conversion: Conversion, src: &[u8], after: &[u8]) -> u64 {
+pub fn compare(conversion: Conversion, src: &[u8], after: &[u8]) -> u64 {
     let before = read(src, conversion.source().width());
     let after = read(after, conversion.target().width());
     for (p, q) in before.chunks_exact(3).zip(after.chunks_exact(3)) {
@@ -119,7 +120,7 @@ fn edges(depth: u32) -> Vec<i64> {
 }
 
 /// The samples of all pixels whose channels are edges.
-fn corners(depth: u32) -> Vec<i64> {
+pub fn corners(depth: u32) -> Vec<i64> {
     let edges = edges(depth);
     let mut corners = Vec::new();
     for &a in &edges {
@@ -189,11 +190,15 @@ pub fn pixels_with_edges() -> u64 {
 }
 
 /// The conversions that name one depth.
-const OF_ONE_DEPTH: [fn(u32) -> Conversion; 4] = [
+const OF_ONE_DEPTH: [fn(u32) -> Conversion; 8] = [
     Conversion::FromSrgb,
     Conversion::ToSrgb,
     Conversion::ToLumaChroma,
     Conversion::FromLumaChroma,
+    Conversion::ToEsycc,
+    Conversion::FromEsycc,
+    Conversion::ToSycc,
+    Conversion::FromSycc,
 ];
 
 /// Depths to ask for, offered and others.
@@ -263,10 +268,21 @@ fn faulty_source(form: Form, random: &mut Random) -> Vec<u8> {
     src
 }
 
-/// Short buffers of any length and depth, with faults: answers, places and every byte against the reference.
+/// The refusals that a source can get, by rules 4.2 and 4.3.
+fn possible(source: Form) -> &'static [u8] {
+    match source {
+        Form::Srgb | Form::Sycc => &[9, 11, 16],
+        Form::Esrgb(_) | Form::Esycc(_) => &[9, 10, 11, 12, 16],
+        Form::LumaChroma(_) => &[9, 10, 11, 12, 13, 16],
+    }
+}
+
+/// Short buffers of any length and depth, with faults: answers, places and every byte against the reference. Each
+/// refusal that a form can get occurs, and no other.
 pub fn refusals() -> u64 {
-    const CALLS: u64 = 400_000;
+    const CALLS: u64 = 720_000;
     let mut random = Random::new(2);
+    let mut refused: HashMap<_, (Form, BTreeSet<u8>)> = HashMap::new();
     for _ in 0..CALLS {
         let conversion = any_conversion(&mut random);
         let (from, to) = (conversion.source(), conversion.target());
@@ -277,14 +293,22 @@ pub fn refusals() -> u64 {
             1 => needed + 1,
             _ => needed,
         };
-        convert_by_both(conversion, &src, &random.bytes(room));
+        let number = convert_by_both(conversion, &src, &random.bytes(room));
+        let (_, numbers) = refused
+            .entry(discriminant(&from))
+            .or_insert((from, BTreeSet::new()));
+        numbers.extend(number);
+    }
+    assert_eq!(refused.len(), 5, "forms");
+    for (form, numbers) in refused.into_values() {
+        assert!(numbers.iter().eq(possible(form)), "{form:?} {numbers:?}");
     }
     CALLS
 }
 
 /// Every conversion at every depth offered, from sources of 0 to 40 bytes into destinations of every length up to what
 /// the longest needs: answers and every byte against the reference. The source's samples are sound, or above what 10
-/// and 12 bits have, so that lengths are seen to be looked at first. Bytes of sRGB never get 10.
+/// and 12 bits have, so that lengths are seen to be looked at first. Bytes of sRGB and of sYCC never get 10.
 pub fn every_length() -> u64 {
     let mut count = 0;
     let mut check = |conversion: Conversion| {

@@ -1,6 +1,6 @@
 //! Spool files.
 
-use outside::{by_both, said, sound_record, Random};
+use outside::{by_both, said, sound_record, Random, PAIRS};
 use reference::spool::{self, Contents, Record};
 
 fn of_library(record: &Record) -> kiosk::Record {
@@ -170,6 +170,37 @@ pub fn spools() -> u64 {
     compared + compare(&more)
 }
 
+/// Every kind with every number of bits, in a file and laid out: all are refused but the pairs of rule 7.3.
+pub fn every_kind_and_bits() -> u64 {
+    let mut random = Random::new(11);
+    let esrgb = Record {
+        width: 1,
+        height: 1,
+        kind: 2,
+        bits: 16,
+        ..sound_record(&mut random)
+    };
+    let mut file = spool_of(&[esrgb], 7, &mut random);
+    let mut sound = Vec::new();
+    let mut compared = 0;
+    for (kind, bits) in (0..=255).flat_map(|kind| (0..=255).map(move |bits| (kind, bits))) {
+        file[12 + 8..12 + 10].copy_from_slice(&[kind, bits]);
+        compared += compare(&file);
+        if kiosk::find(&file, 0).is_ok() {
+            sound.push((kind, bits));
+        }
+        let record = Record {
+            kind,
+            bits,
+            ..esrgb
+        };
+        lay_out(&[record], 7, &file[..28 + record.pixel_bytes() as usize]);
+        compared += 1;
+    }
+    assert_eq!(sound, PAIRS);
+    compared
+}
+
 /// Lists of records, sound and at fault, laid out in rooms that fit or do not.
 pub fn layouts() -> u64 {
     let mut random = Random::new(6);
@@ -180,7 +211,7 @@ pub fn layouts() -> u64 {
             .collect();
         for record in &mut records {
             match random.below(16) {
-                0 => record.kind = random.below(6) as u8,
+                0 => record.kind = random.below(8) as u8,
                 1 => record.bits = random.pick(&[0, 7, 8, 9, 10, 11, 12, 16, 255]),
                 2 => record.width = random.pick(&[0, 8192, 8193, 65_535]),
                 3 => record.height = random.pick(&[0, 8192, 8193, 65_535]),

@@ -1,8 +1,8 @@
 /*
- * The conversions by hand for SSE2, which every x86-64 processor has, to compare speed with: what the
- * machine gives to someone who writes its instructions out. The same answers and bytes as plain C, which
- * takes the few pixels that the vectors leave over, and every source that the quick look does not find
- * sound.
+ * The conversions but those of e-sYCC and sYCC by hand for SSE2, which every x86-64 processor has, to compare
+ * speed with: what the machine gives to someone who writes its instructions out. The same answers and bytes as
+ * plain C, which takes the few pixels that the vectors leave over, and every source that the quick look does not
+ * find sound.
  */
 #include <emmintrin.h>
 

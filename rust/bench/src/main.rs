@@ -524,8 +524,8 @@ mod tests {
     use super::*;
 
     /// Sources of every length up to 40 pixels and a byte, of a picture and of any samples, some with the greatest code
-    /// and some with samples that no code is: each version gives the library's answer and bytes, and the library before
-    /// does, if `KIOSK_BEFORE` names one.
+    /// and some with samples that no code is: each version gives the library's answer and bytes for what it has, and
+    /// the library before does, if `KIOSK_BEFORE` names one.
     #[test]
     fn the_c_versions_agree_with_the_library() {
         let mut numbers = noise(usize::MAX);

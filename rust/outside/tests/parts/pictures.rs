@@ -33,15 +33,26 @@ pub fn converted(conversion: Conversion, src: &[u8]) -> Vec<u8> {
     after
 }
 
+/// The samples of a pixel of one-byte or two-byte samples.
+fn pixel(bytes: &[u8]) -> [i64; 3] {
+    match *bytes {
+        [a, b, c] => [a, b, c].map(i64::from),
+        [a, b, c, d, e, f] => [[a, b], [c, d], [e, f]].map(|x| i64::from(u16::from_le_bytes(x))),
+        _ => panic!("{} bytes are no pixel", bytes.len()),
+    }
+}
+
 /// Compares the library's pixels with the reference's rule, pixel by pixel.
 pub fn compare(conversion: Conversion, src: &[u8], after: &[u8]) -> u64 {
-    let before = read(src, conversion.source().width());
-    let after = read(after, conversion.target().width());
-    for (p, q) in before.chunks_exact(3).zip(after.chunks_exact(3)) {
-        let expected = conversion.pixel([p[0], p[1], p[2]]);
-        assert_eq!(q, expected, "{conversion:?} of {p:?}");
+    let bytes = |form: Form| 3 * form.width();
+    let before = src.chunks_exact(bytes(conversion.source()));
+    let after = after.chunks_exact(bytes(conversion.target()));
+    let count = before.len() as u64;
+    for (p, q) in before.zip(after) {
+        let (p, q) = (pixel(p), pixel(q));
+        assert_eq!(q, conversion.pixel(p), "{conversion:?} of {p:?}");
     }
-    (before.len() / 3) as u64
+    count
 }
 
 /// Every code of every depth through every rule of a single sample. Each code stands in all three places.

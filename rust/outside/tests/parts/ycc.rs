@@ -5,9 +5,9 @@ use outside::Random;
 use reference::buffers::Conversion;
 use reference::samples;
 
-/// The random pixels of a conversion and depth, so many at a time.
-const TURNS: usize = 400;
-const PIXELS: usize = 50_000;
+/// The random pixels of a conversion and depth are 20 million, so many at a time that they stay in the cache.
+const PIXELS: usize = 4_000;
+const TURNS: usize = 20_000_000 / PIXELS;
 
 /// Pixels of two-byte samples by a conversion at each depth: those of edges, greys of every code, as e-sRGB has them and
 /// as e-sYCC does, and random ones.
@@ -50,10 +50,8 @@ pub fn to_sycc() -> u64 {
 /// All pixels of sYCC.
 pub fn from_sycc() -> u64 {
     let mut count = 0;
-    for luma in 0..=255 {
-        let src: Vec<u8> = (0..=255)
-            .flat_map(|blue| (0..=255).flat_map(move |red| [luma, blue, red]))
-            .collect();
+    for (luma, blue) in (0..=255).flat_map(|luma| (0..=255).map(move |blue| (luma, blue))) {
+        let src: Vec<u8> = (0..=255).flat_map(|red| [luma, blue, red]).collect();
         for conversion in DEPTHS.map(Conversion::FromSycc) {
             count += compare(conversion, &src, &converted(conversion, &src));
         }

@@ -523,6 +523,20 @@ fn main() {
 mod tests {
     use super::*;
 
+    /// Samples that no picture has, in the form that a conversion reads; of one-byte samples more than `pixels`.
+    fn any_source(conversion: Conversion, pixels: usize) -> Vec<u8> {
+        match conversion {
+            Conversion::FromSrgb { .. } | Conversion::FromSycc { .. } => any_samples(16, pixels),
+            Conversion::ToSrgb { depth }
+            | Conversion::ChangeDepth { from: depth, .. }
+            | Conversion::ToLumaChroma { depth }
+            | Conversion::FromLumaChroma { depth }
+            | Conversion::ToEsycc { depth }
+            | Conversion::FromEsycc { depth }
+            | Conversion::ToSycc { depth } => any_samples(depth, pixels),
+        }
+    }
+
     /// Sources of every length up to 40 pixels and a byte, of a picture and of any samples, some with the greatest code
     /// and some with samples that no code is: each version gives the library's answer and bytes for what it has, and
     /// the library before does, if `KIOSK_BEFORE` names one.
@@ -535,17 +549,7 @@ mod tests {
             let Call::Convert(conversion) = operation.call else {
                 continue;
             };
-            let any = match conversion {
-                Conversion::FromSrgb { .. } | Conversion::FromSycc { .. } => any_samples(16, 81),
-                Conversion::ToSrgb { depth }
-                | Conversion::ChangeDepth { from: depth, .. }
-                | Conversion::ToLumaChroma { depth }
-                | Conversion::FromLumaChroma { depth }
-                | Conversion::ToEsycc { depth }
-                | Conversion::FromEsycc { depth }
-                | Conversion::ToSycc { depth } => any_samples(depth, 81),
-            };
-            let sources = [picture(conversion, 81), any];
+            let sources = [picture(conversion, 81), any_source(conversion, 81)];
             let mut versions: Vec<c::Convert> = vec![c::plain, c::sse2, c::before];
             versions.retain(|&version| has(version, conversion));
             for (source, len) in sources

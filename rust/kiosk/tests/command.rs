@@ -260,7 +260,7 @@ fn raw(folder: &Path, file: &str, form: &str) -> Vec<u8> {
     fs::read(folder.join("raw.pixels")).expect("pixels")
 }
 
-/// Red and blue of sRGB, to the standard's YCC and back.
+/// Red and blue of sRGB to the standard's YCC, written raw and as a spool, and that spool's frame to its own form.
 #[test]
 fn converts_to_esycc_and_sycc() {
     let folder = with_spool("ycc");
@@ -287,23 +287,27 @@ fn converts_to_esycc_and_sycc() {
         // To its own form it is copied.
         assert_eq!(raw(&folder, form, form), pixels, "{form}");
     }
-    for (form, codes) in [
-        ("esycc10", [894, 384, 385, 384, 384, 895]),
-        ("sycc", [894, 383, 385, 385, 384, 894]),
+}
+
+/// The same red and blue back: as codes, as a preview and compared.
+#[test]
+fn takes_frames_of_esycc_and_sycc() {
+    let folder = folder("from-ycc");
+    let esycc = one_frame(4, 10, &wide(&[306, 426, 768, 117, 768, 470]));
+    let sycc = one_frame(5, 8, &[76, 85, 255, 29, 255, 107]);
+    for (file, codes, lines) in [
+        (esycc, [894, 384, 385, 384, 384, 895], 2),
+        (sycc, [894, 383, 385, 385, 384, 894], 6),
     ] {
-        assert_eq!(raw(&folder, form, "esrgb10"), wide(&codes), "{form}");
-    }
-    for file in ["esycc10", "sycc"] {
-        let words = ["preview", file, "0", "--out", "x.png"];
+        fs::write(folder.join("ycc"), file).expect("written");
+        assert_eq!(raw(&folder, "ycc", "esrgb10"), wide(&codes));
+        let words = ["preview", "ycc", "0", "--out", "x.png"];
         assert!(kiosk(&folder, &words).status.success());
-        assert!(has_row(&folder, &[0, 255, 0, 1, 0, 0, 255]), "{file}");
+        assert!(has_row(&folder, &[0, 255, 0, 1, 0, 0, 255]));
+        // At its own depth, or at each.
+        let compared = kiosk(&folder, &["compare", "ycc", "0"]);
+        assert_eq!(text(&compared.stdout).lines().count(), lines);
     }
-    let lines = |file| {
-        text(&kiosk(&folder, &["compare", file, "0"]).stdout)
-            .lines()
-            .count()
-    };
-    assert_eq!((lines("esycc12"), lines("sycc")), (2, 6));
 }
 
 /// To sRGB, sYCC goes by way of 16 bits. By way of 10 this pixel would become (142, 169, 191), of 12 (141, 169, 191).

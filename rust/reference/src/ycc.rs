@@ -226,9 +226,9 @@ mod tests {
         assert_eq!(from_esycc(10, [306, 426, 768]), [894, 384, 385]);
     }
 
-    /// By C3 the primaries have twice the chroma that B3 gives, so that red's red chroma and blue's blue chroma are 1/2:
-    /// 255 / 2 + 128 = 255.5 is rounded up and clipped. Before rounding red is 76.245, 84.972, 255.5, green 149.685,
-    /// 43.528, 21.235, and blue 29.07, 255.5, 107.265. No depth enters.
+    /// By C3 the primaries have twice the chroma that B3 gives, so that red's red chroma and blue's blue chroma are
+    /// 1/2: 255 / 2 + 128 = 255.5 is rounded up and clipped. Before rounding red is 76.245, 84.972, 255.5, green
+    /// 149.685, 43.528, 21.235, and blue 29.07, 255.5, 107.265. No depth enters.
     #[test]
     fn primaries_in_sycc() {
         for depth in [10, 12, 16] {

@@ -9,8 +9,8 @@ use reference::samples;
 const PIXELS: usize = 4_000;
 const TURNS: usize = 20_000_000 / PIXELS;
 
-/// Pixels of two-byte samples by a conversion at each depth: those of edges, greys of every code, as e-sRGB has them and
-/// as e-sYCC does, and random ones.
+/// Pixels of two-byte samples by a conversion at each depth: those of edges, greys of every code, as e-sRGB has them
+/// and as e-sYCC does, and random ones.
 fn pixels(conversion: fn(u32) -> Conversion, seed: u64) -> u64 {
     let mut random = Random::new(seed);
     let mut count = 0;

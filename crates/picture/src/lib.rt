@@ -137,7 +137,7 @@ fn fill_pixels(rule: PixelRule, src: &[u8], dst: &mut [u8])
     let end = src.len() / 6;
     let mut i = 0;
     while i < end {
-        let p = samples::pixel_at(src, i);
+        let p = samples::pixel_at(src, true, i);
         put_pixel(dst, i, apply_to_pixel(rule, p));
         i += 1;
     }

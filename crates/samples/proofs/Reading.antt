@@ -1,13 +1,13 @@
 -- How many samples and pixels a buffer has, and where each stands.
 -- Assumes nothing.
 use Prim.Native.Nat.{ℕ, zero, suc, _+_, _*_, _/_, _≤_, _<_}
-use mathlib.Core.Path.{_≡_, refl}
+use mathlib.Core.Path.{_≡_, refl, ap, _∙_}
 use mathlib.Core.Bool.{Bool, true, false}
 use mathlib.Core.List.{List, [], _∷_}
 use native.Mathlib.Omega.{arith}
 use lib.ListN.{length, getD, List·getD-eq-default}
 use Rattle.numbers.specs.Bytes.{littleEndian}
-use Rattle.samples.specs.Samples.{sampleCount, samplesOf, twoByTwo, pixel, noPixel, pixelsOf}
+use Rattle.samples.specs.Samples.{sampleCount, samplesOf, twoByTwo, pixel, noPixel, pixelsOf, read}
 
 pub length-two : (bytes : List ℕ) → length (twoByTwo bytes) ≡ length bytes / 2
 length-two [] = refl
@@ -26,6 +26,9 @@ length-pixels [] = refl
 length-pixels (a ∷ []) = refl
 length-pixels (a ∷ b ∷ []) = refl
 length-pixels (a ∷ b ∷ c ∷ rest) = omega (arith, length-pixels rest)
+
+pub pixel-count : (wide : Bool) (bytes : List ℕ) → length (read wide bytes) ≡ sampleCount wide (length bytes) / 3
+pixel-count wide bytes = length-pixels (samplesOf wide bytes) ∙ ap (λ n. n / 3) (length-samples wide bytes)
 
 pub two-at : (bytes : List ℕ) (k : ℕ) → 2 * k + 1 < length bytes
     → getD (twoByTwo bytes) k 0 ≡ littleEndian (getD bytes (2 * k) 0 ∷ getD bytes (2 * k + 1) 0 ∷ [])

@@ -48,6 +48,18 @@ fn wide_sample(src: &[u8], k: usize) -> u16
     from_two(src[2 * k], src[2 * k + 1])
 }
 
+// Sample k of those that a buffer holds.
+fn held_sample(src: &[u8], wide: bool, k: usize) -> u16
+    requires { ⌜ k < sampleCount wide (length (now src)) ⌝ }
+    ensures { λ r. ⌜ r ≡ getD (samplesOf wide (now (src .entry))) k 0 ⌝ }
+{
+    if wide {
+        wide_sample(src, k)
+    } else {
+        src[k] as u16
+    }
+}
+
 // Sample k, or 0 behind the last. In a loop that ends with the samples, the compiler leaves the test out.
 pub fn sample(src: &[u8], wide: bool, k: usize) -> u16
     ensures { λ r. ⌜ r ≡ getD (samplesOf wide (now (src .entry))) k 0 ⌝ }
@@ -55,11 +67,7 @@ pub fn sample(src: &[u8], wide: bool, k: usize) -> u16
     if sample_count(wide, src.len()) <= k {
         return 0;
     }
-    if wide {
-        wide_sample(src, k)
-    } else {
-        src[k] as u16
-    }
+    held_sample(src, wide, k)
 }
 
 // A pixel: three samples, in the order of the buffer.
@@ -69,11 +77,11 @@ pub struct Pixel {
     pub third: u16,
 }
 
-// Pixel i of a buffer of two-byte samples, or zeros behind the last.
-pub fn pixel_at(src: &[u8], i: usize) -> Pixel
-    ensures { λ r. ⌜ r ≡ getD (read true (now (src .entry))) i noPixel ⌝ }
+// Pixel i of a buffer, or zeros behind the last.
+pub fn pixel_at(src: &[u8], wide: bool, i: usize) -> Pixel
+    ensures { λ r. ⌜ r ≡ getD (read wide (now (src .entry))) i noPixel ⌝ }
 {
-    if src.len() / 6 <= i {
+    if sample_count(wide, src.len()) / 3 <= i {
         return Pixel {
             first: 0,
             second: 0,
@@ -82,9 +90,9 @@ pub fn pixel_at(src: &[u8], i: usize) -> Pixel
     }
     let k = 3 * i;
     Pixel {
-        first: wide_sample(src, k),
-        second: wide_sample(src, k + 1),
-        third: wide_sample(src, k + 2),
+        first: held_sample(src, wide, k),
+        second: held_sample(src, wide, k + 1),
+        third: held_sample(src, wide, k + 2),
     }
 }
 
@@ -134,7 +142,7 @@ fn sound_start(chroma: bool, greatest: u16, src: &[u8]) -> usize
     let end = src.len() / 6;
     let mut i = 0;
     while i < end {
-        if at_fault(chroma, greatest, pixel_at(src, i)) {
+        if at_fault(chroma, greatest, pixel_at(src, true, i)) {
             return 3 * i;
         }
         i += 1;

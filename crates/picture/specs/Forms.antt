@@ -16,16 +16,26 @@ pub data Form : Type 0 where
   esrgb : ℕ → Form
   lumaChroma : ℕ → Form
 
-abbrev pub bitsOf : Form → ℕ
-bitsOf srgb = 8
-bitsOf (esrgb n) = n
-bitsOf (lumaChroma n) = n
+-- A row for each form: the bits of its samples; what they may be, and whether a chroma of 0 is at fault (rule 4.3); whether its depth is
+-- offered (rule 4.2, 9).
+pub record FormRow : Type 0 where
+  pub bits : ℕ
+  pub coding : Coding
+  pub offers : Bool
 
--- Rule 4.3: what the samples of a form may be, and whether a chroma of 0 is at fault.
+abbrev pub formRow : Form → FormRow
+formRow srgb = record { bits = 8; coding = Bytes; offers = true }
+formRow (esrgb n) = record { bits = n; coding = Codes (greatest n) false; offers = offered n }
+formRow (lumaChroma n) = record { bits = n; coding = Codes (greatest n) true; offers = offered n }
+
+abbrev pub bitsOf : Form → ℕ
+bitsOf form = formRow form .bits
+
 abbrev pub codingOf : Form → Coding
-codingOf srgb = Bytes
-codingOf (esrgb n) = Codes (greatest n) false
-codingOf (lumaChroma n) = Codes (greatest n) true
+codingOf form = formRow form .coding
+
+abbrev pub offersForm : Form → Bool
+offersForm form = formRow form .offers
 
 abbrev pub wideForm : Form → Bool
 wideForm form = wideCoding (codingOf form)
@@ -33,9 +43,3 @@ wideForm form = wideCoding (codingOf form)
 -- How many pixels a buffer of a form holds.
 abbrev pub pixelsIn : Form → List ℕ → ℕ
 pixelsIn form bytes = length bytes / pixelSize (wideForm form)
-
--- Rule 4.2, 9: is the depth of a form offered?
-abbrev pub offersForm : Form → Bool
-offersForm srgb = true
-offersForm (esrgb n) = offered n
-offersForm (lumaChroma n) = offered n

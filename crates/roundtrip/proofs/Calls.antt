@@ -38,17 +38,18 @@ pub record Went (c : Conversion) (src after : List ℕ) (answer : Said) : Type 0
   pub picture : Picture (target c) after
 
 -- The bytes of a sample hold every code of its form.
-two-bytes-fit : (n : ℕ) → offered n ≡ true → (p : Pixel) → Codes n p → Fits true p
-two-bytes-fit n o p h = omega (arith, scale-of n o, h first, h second, h third)
+abbrev Holds : Form → Type 0
+Holds form = (p : Pixel) → Codes (bitsOf form) p → Fits (wideForm form) p
+
+one-byte : Holds srgb
+one-byte p h = (h first, h second, h third)
+
+two-bytes : (n : ℕ) → offered n ≡ true → (p : Pixel) → Codes n p → Fits true p
+two-bytes n o p h = omega (arith, scale-of n o, h first, h second, h third)
 
 -- A pixel of codes whose chroma is not 0 is sound.
 sound-pixel : (n : ℕ) {chroma : Bool} {p : Pixel} → Codes n p → (chroma ≡ true → (1 ≤ p .second) × (1 ≤ p .third)) → SoundPixel chroma (greatest n) p
 sound-pixel n h nonzero = record { first = omega (arith, h first); second = omega (arith, h second); third = omega (arith, h third); nonzero = nonzero }
-
-fits : (form : Form) → offersForm form ≡ true → (p : Pixel) → Codes (bitsOf form) p → Fits (wideForm form) p
-fits srgb o p h = (h first, h second, h third)
-fits (esrgb n) o p h = two-bytes-fit n o p h
-fits (lumaChroma n) o p h = two-bytes-fit n o p h
 
 module _ (c : Conversion) (src : List ℕ) where
   length-converted : length (converted c src) ≡ needed c src
@@ -65,7 +66,7 @@ module _ (c : Conversion) (src : List ℕ) where
       written-at (wideForm (target c)) (map (pixelOf c) ps) j _ _ (simp (length-map, length-read) h) (rw same f) ∙ same
 
 module _ {c : Conversion} {src before after : List ℕ} {answer : Said}
-    (from : offersForm (source c) ≡ true) (to : offersForm (target c) ≡ true) (sound : Sound (source c) src)
+    (from : offersForm (source c) ≡ true) (to : offersForm (target c) ≡ true) (holds : Holds (target c)) (sound : Sound (source c) src)
     (codes : (j : ℕ) → j < pixelsIn (source c) src → Codes (bitsOf (target c)) (pixelOf c (pixelAt (source c) src j)))
     (call : Call c src before after answer) where
   accepts : answer ≡ accepted (pixelsIn (source c) src)
@@ -86,7 +87,7 @@ module _ {c : Conversion} {src before after : List ℕ} {answer : Said}
   same-count = rw size (pixels-in-size (wideForm (target c)) (pixelsIn (source c) src))
 
   after-at : (j : ℕ) → j < pixelsIn (source c) src → pixelAt (target c) after j ≡ pixelOf c (pixelAt (source c) src j)
-  after-at j h = rw after-is (converted-at c src j h (fits (target c) to _ (codes j h)))
+  after-at j h = rw after-is (converted-at c src j h (holds _ (codes j h)))
 
   goes : Went c src after answer
   goes = record {
@@ -108,16 +109,16 @@ no-fault {n} p = record { picture = p; sounds = λ j h. sound-pixel n (p .codes 
 module _ {n : ℕ} (o : offered n ≡ true) {src before after : List ℕ} {answer : Said} where
   pub from-srgb : Picture srgb src → Call (FromSrgb n) src before after answer → Went (FromSrgb n) src after answer
   from-srgb p =
-      goes refl o (record { picture = p; sounds = λ j h. tt }) (λ j h k. rw channel-of-each (from-srgb-code n _ (scale-of n o) (p .codes j h k)))
+      goes refl o (two-bytes n o) (record { picture = p; sounds = λ j h. tt }) (λ j h k. rw channel-of-each (from-srgb-code n _ (scale-of n o) (p .codes j h k)))
 
   pub to-srgb : Picture (esrgb n) src → Call (ToSrgb n) src before after answer → Went (ToSrgb n) src after answer
-  to-srgb p = goes o refl (no-fault p) (λ j h k. rw channel-of-each (to-srgb-byte n _))
+  to-srgb p = goes o refl one-byte (no-fault p) (λ j h k. rw channel-of-each (to-srgb-byte n _))
 
   pub to-ycc : Picture (esrgb n) src → Call (ToLumaChroma n) src before after answer → Went (ToLumaChroma n) src after answer
-  to-ycc p = goes o o (no-fault p) (λ j h. ycc-codes n (scale-of n o) _ (p .codes j h))
+  to-ycc p = goes o o (two-bytes n o) (no-fault p) (λ j h. ycc-codes n (scale-of n o) _ (p .codes j h))
 
   pub from-ycc : Sound (lumaChroma n) src → Call (FromLumaChroma n) src before after answer → Went (FromLumaChroma n) src after answer
-  from-ycc s = goes o o s (λ j h. back-codes n (scale-of n o) _)
+  from-ycc s = goes o o (two-bytes n o) s (λ j h. back-codes n (scale-of n o) _)
 
 -- No stored chroma is 0 (rule 2.4), so luma and chroma can be read back.
 pub ycc-sound :

@@ -3,10 +3,9 @@
 use Prim.Native.Nat.{ℕ, suc, _+_, _*_, _≤_, _<_}
 use mathlib.Core.Path.{_≡_, refl, sym, ap, _∙_}
 use mathlib.Core.Bool.{Bool, true, false}
-use mathlib.Core.List.{List, [], _∷_, _++_, append-assoc, map}
+use mathlib.Core.List.{List, [], _∷_, _++_, append-assoc, append-nil, map}
 use native.Mathlib.Omega.{arith}
 use lib.ListN.{length, getD, take, drop}
-use Rattle.numbers.specs.Bytes.{lowBytes}
 use Rattle.numbers.proofs.Writing.{Written, written-more}
 use Rattle.samples.specs.declared.Pixel.{Pixel}
 use Rattle.samples.specs.Samples.{place, sampleBytes, bytesOf, pixel, noPixel, write}
@@ -15,6 +14,10 @@ use Rattle.samples.specs.Samples.{place, sampleBytes, bytesOf, pixel, noPixel, 
 pub place-within : (wide : Bool) (k n len : ℕ) → k ≤ n → place wide n ≤ len → place wide k ≤ len
 place-within true k n len h l = omega arith
 place-within false k n len h l = omega arith
+
+pub place-least : (wide : Bool) (k : ℕ) → k ≤ place wide k
+place-least true k = omega arith
+place-least false k = omega arith
 
 -- ---- samples, each by f
 abbrev pub bytesBy : Bool → (ℕ → ℕ) → List ℕ → List ℕ
@@ -32,27 +35,34 @@ one-more wide f xs dst after k x h e put =
     written-more (bytesBy wide f) xs 0 k (place wide k) (place wide (k + 1)) dst after (sampleBytes wide x) h put
     (ap (λ y. sampleBytes wide y ++ bytesBy wide f (drop (suc k) xs)) (sym e))
 
--- ---- pixels, each by f, in wide samples
-abbrev pub pixelsBy : (Pixel → Pixel) → List Pixel → List ℕ
-pixelsBy f ps = write true (map f ps)
+-- ---- pixels, each by f
+abbrev pub pixelsBy : Bool → (Pixel → Pixel) → List Pixel → List ℕ
+pixelsBy wide f ps = write wide (map f ps)
+
+pub no-pixel-written : (wide : Bool) (f : Pixel → Pixel) (ps : List Pixel) (dst : List ℕ) → Written (pixelsBy wide f) ps dst (place wide (3 * 0)) 0
+no-pixel-written true f ps dst = refl
+no-pixel-written false f ps dst = refl
+
+write-more : (wide : Bool) (p : Pixel) (ps : List Pixel) → write wide (p ∷ ps) ≡ write wide (p ∷ []) ++ write wide ps
+write-more true p ps = refl
+write-more false p ps = refl
 
 pub pixel-more :
-    (f : Pixel → Pixel) (ps : List Pixel) (dst after : List ℕ) (i : ℕ) (p : Pixel) → i < length ps → p ≡ f (getD ps i noPixel)
-    → take (6 * (i + 1)) after ≡ take (6 * i) dst ++ write true (p ∷ [])
-    → Written (pixelsBy f) ps dst (6 * i) i → Written (pixelsBy f) ps after (6 * (i + 1)) (i + 1)
-pixel-more f ps dst after i p h e put =
-    written-more (pixelsBy f) ps noPixel i (6 * i) (6 * (i + 1)) dst after (write true (p ∷ [])) h put
-    (ap (λ q. write true (q ∷ []) ++ pixelsBy f (drop (suc i) ps)) (sym e))
+    (wide : Bool) (f : Pixel → Pixel) (ps : List Pixel) (dst after : List ℕ) (i : ℕ) (p : Pixel) → i < length ps → p ≡ f (getD ps i noPixel)
+    → take (place wide (3 * (i + 1))) after ≡ take (place wide (3 * i)) dst ++ write wide (p ∷ [])
+    → Written (pixelsBy wide f) ps dst (place wide (3 * i)) i → Written (pixelsBy wide f) ps after (place wide (3 * (i + 1))) (i + 1)
+pixel-more wide f ps dst after i p h e put =
+    written-more (pixelsBy wide f) ps noPixel i (place wide (3 * i)) (place wide (3 * (i + 1))) dst after (write wide (p ∷ [])) h put
+    (write-more wide (f (getD ps i noPixel)) (map f (drop (suc i) ps)) ∙ ap (λ q. write wide (q ∷ []) ++ pixelsBy wide f (drop (suc i) ps)) (sym e))
 
 -- three samples put one after another are a pixel
 pub three-put :
-    (d₀ d₁ d₂ d₃ : List ℕ) (i a b c : ℕ)
-    → take (2 * (3 * i + 1)) d₁ ≡ take (2 * (3 * i)) d₀ ++ lowBytes 2 a
-    → take (2 * (3 * i + 1 + 1)) d₂ ≡ take (2 * (3 * i + 1)) d₁ ++ lowBytes 2 b
-    → take (2 * (3 * i + 2 + 1)) d₃ ≡ take (2 * (3 * i + 2)) d₂ ++ lowBytes 2 c
-    → take (6 * (i + 1)) d₃ ≡ take (6 * i) d₀ ++ write true (pixel a b c ∷ [])
-three-put d₀ d₁ d₂ d₃ i a b c p q r =
-    let e₀ : 6 * i ≡ 2 * (3 * i) = omega arith in
-    let e₂ : 2 * (3 * i + 1 + 1) ≡ 2 * (3 * i + 2) = omega arith in
-    let e₃ : 6 * (i + 1) ≡ 2 * (3 * i + 2 + 1) = omega arith in
-    rw (e₃, e₀) (r ∙ ap (λ l. l ++ lowBytes 2 c) (rw e₂ at q ∙ ap (λ l. l ++ lowBytes 2 b) p) ∙ simp append-assoc)
+    (wide : Bool) (d₀ d₁ d₂ d₃ : List ℕ) (i a b c : ℕ)
+    → take (place wide (3 * i + 1)) d₁ ≡ take (place wide (3 * i)) d₀ ++ sampleBytes wide a
+    → take (place wide (3 * i + 1 + 1)) d₂ ≡ take (place wide (3 * i + 1)) d₁ ++ sampleBytes wide b
+    → take (place wide (3 * i + 2 + 1)) d₃ ≡ take (place wide (3 * i + 2)) d₂ ++ sampleBytes wide c
+    → take (place wide (3 * (i + 1))) d₃ ≡ take (place wide (3 * i)) d₀ ++ write wide (pixel a b c ∷ [])
+three-put wide d₀ d₁ d₂ d₃ i a b c p q r =
+    let e₂ : 3 * i + 1 + 1 ≡ 3 * i + 2 = omega arith in
+    let e₃ : 3 * (i + 1) ≡ 3 * i + 2 + 1 = omega arith in
+    rw e₃ (r ∙ ap (λ l. l ++ sampleBytes wide c) (rw e₂ at q ∙ ap (λ l. l ++ sampleBytes wide b) p) ∙ simp (append-assoc, append-nil))

@@ -3,7 +3,7 @@
 -- Assumes nothing.
 use Prim.Native.Nat.{ℕ, _*_, _/_, _%_}
 use mathlib.Core.Path.{_≡_, refl, sym, ap, _∙_}
-use mathlib.Core.Bool.{Bool, true, false}
+use mathlib.Core.Bool.{Bool, true, false, _&&_}
 use mathlib.Core.List.{List, [], _∷_, map}
 use native.Mathlib.Omega.{arith}
 use lib.ListN.{length}
@@ -15,18 +15,20 @@ use Rattle.samples.proofs.Reading.{length-two}
 use Rattle.samples.proofs.Buffers.{length-read}
 use Rattle.esrgb.specs.declared.Depth.{Depth}
 use Rattle.esrgb.specs.declared.SampleRule.{SampleRule}
-use Rattle.esrgb.specs.Depths.{bits, greatest}
+use Rattle.esrgb.specs.Depths.{offered, bits, greatest}
 use Rattle.esrgb.specs.Codes.{fromSrgb, toSrgb, changeDepth}
 use Rattle.esrgb.specs.HowApplied.{applied, Computes, lineOf, cutOf, changeOf}
 use Rattle.esrgb.proofs.Scale.{scale, offered-bits}
 use Rattle.esrgb.proofs.Rules.{from-srgb-computes, to-srgb-computes, change-computes}
 use Rattle.picture.specs.declared.Conversion.{Conversion}
-use Rattle.picture.specs.declared.Conversion.the-variants.{FromSrgb, ToSrgb, ChangeDepth, ToLumaChroma, FromLumaChroma}
+use Rattle.picture.specs.declared.Conversion.the-variants.{FromSrgb, ToSrgb, ChangeDepth}
+use Rattle.picture.specs.declared.PixelRule.{PixelRule}
 use Rattle.picture.specs.declared.PixelRule.the-variants as rule
 use Rattle.picture.specs.declared.Work.{Work}
 use Rattle.picture.specs.declared.Work.the-variants.{Widen, Narrow, Change, Pixels}
-use Rattle.picture.specs.Convert.{each, converted}
-use Rattle.picture.specs.HowConverted.{Plans}
+use Rattle.picture.specs.Forms.{codingOf}
+use Rattle.picture.specs.Convert.{each, source, offers, converted}
+use Rattle.picture.specs.HowConverted.{doneBy, Plans}
 
 -- ---- lengths
 pub room-samples :
@@ -36,8 +38,13 @@ room-samples true false src dst e = omega (arith, e, length-two src)
 room-samples false true src dst e = omega (arith, e)
 room-samples false false src dst e = omega (arith, e)
 
-pub room-pixels : (src dst : List ℕ) → Exact true true (length src) (length dst) → length dst ≡ 6 * length (read true src)
-room-pixels src dst e = rw (length-read true src) (e .room-is)
+pixels-end : (wide : Bool) (n : ℕ) → pixelSize wide * n ≡ place wide (3 * n)
+pixels-end true n = omega arith
+pixels-end false n = omega arith
+
+pub room-pixels :
+    (from to : Bool) (src dst : List ℕ) → length dst ≡ pixelSize to * (length src / pixelSize from) → length dst ≡ place to (3 * length (read from src))
+room-pixels from to src dst e = rw (length-read from src) (e ∙ pixels-end to (length src / pixelSize from))
 
 whole-samples : (wide : Bool) (src : List ℕ) → length src % pixelSize wide ≡ 0 → length (samplesOf wide src) % 3 ≡ 0
 whole-samples true src h = omega (arith, length-two src)
@@ -104,13 +111,17 @@ module _ (d : Depth) where
         same-samples true _ (changeDepth (bits d) (bits to)) (samplesOf true src) computes ∙ by-pixels true true (changeDepth (bits d) (bits to)) src whole;
   }
 
-  pub plan-to-luma-chroma : Plans (ToLumaChroma (bits d)) (Codes (greatest (bits d)) false) (Pixels (rule.ToLumaChroma d))
-  unfolding converted
-  plan-to-luma-chroma = record { offered = rw (offered-bits d); coding-is = refl; reads = refl; writes = refl; makes = λ src whole. refl }
+-- ---- the conversions of the rules for pixels: at any depth, only that is asked
+and-same : (b : Bool) → b && b ≡ b
+and-same true = refl
+and-same false = refl
 
-  pub plan-from-luma-chroma : Plans (FromLumaChroma (bits d)) (Codes (greatest (bits d)) true) (Pixels (rule.ToRgb d))
-  unfolding converted
-  plan-from-luma-chroma = record { offered = rw (offered-bits d); coding-is = refl; reads = refl; writes = refl; makes = λ src whole. refl }
+pub offers-done : (rule : PixelRule) (n : ℕ) → offers (doneBy rule n) ≡ offered n
+offers-done rule.ToLumaChroma n = and-same (offered n)
+offers-done rule.FromLumaChroma n = and-same (offered n)
+
+pub plan-pixels : (rule : PixelRule) (d : Depth) → Plans (doneBy rule (bits d)) (codingOf (source (doneBy rule (bits d)))) (Pixels rule d)
+plan-pixels rule d = record { offered = offers-done rule (bits d) ∙ offered-bits d; coding-is = refl; reads = refl; writes = refl; makes = λ src whole. refl }
 
 -- ---- a conversion, a coding and a loop that are known by equations
 pub same-plan :

@@ -7,45 +7,54 @@ use mathlib.Core.List.{List, map}
 use lib.ListN.{length}
 use Rattle.samples.specs.declared.Pixel.{Pixel}
 use Rattle.samples.specs.declared.Coding.{Coding}
-use Rattle.samples.specs.Samples.{pixelSize, samplesOf, bytesOf, read, write}
+use Rattle.samples.specs.Samples.{pixelSize, samplesOf, bytesOf}
 use Rattle.samples.specs.Faults.{wideCoding}
 use Rattle.esrgb.specs.Depths.{bits}
 use Rattle.esrgb.specs.declared.SampleRule.the-variants as sample
 use Rattle.esrgb.specs.HowApplied.{applied, ruleOf, cutOf}
-use Rattle.lumachroma.specs.LumaChroma.{toLumaChroma, toRgb}
 use Rattle.picture.specs.declared.Conversion.{Conversion}
+use Rattle.picture.specs.declared.Conversion.the-variants.{ToLumaChroma, FromLumaChroma}
 use Rattle.picture.specs.declared.PixelRule.{PixelRule}
 use Rattle.picture.specs.declared.PixelRule.the-variants as rule
+use Rattle.picture.specs.declared.Sides.{Sides}
 use Rattle.picture.specs.declared.Work.{Work}
 use Rattle.picture.specs.declared.Work.the-variants.{Widen, Narrow, Change, Pixels}
 use Rattle.picture.specs.declared.Plan.{Plan}
 use Rattle.picture.specs.declared.Plan.the-variants.{Run, NotOffered}
 use Rattle.picture.specs.Forms.{codingOf, wideForm}
-use Rattle.picture.specs.Convert.{source, target, offers, converted}
+use Rattle.picture.specs.Convert.{source, target, pixelOf, offers, converted}
 
--- What a rule does to a pixel.
-abbrev pub pixelApplied : PixelRule → Pixel → Pixel
-pixelApplied (rule.ToLumaChroma d) = toLumaChroma (bits d)
-pixelApplied (rule.ToRgb d) = toRgb (bits d)
+-- A row for each rule that takes a whole pixel at a time: the conversion that it does, at a depth of n bits.
+abbrev pub doneBy : PixelRule → ℕ → Conversion
+doneBy rule.ToLumaChroma n = ToLumaChroma n
+doneBy rule.FromLumaChroma n = FromLumaChroma n
+
+-- So what it does to a pixel.
+abbrev pub pixelApplied : PixelRule → ℕ → Pixel → Pixel
+pixelApplied rule n = pixelOf (doneBy rule n)
+
+-- What a conversion reads, and whether it writes wide samples.
+abbrev pub sidesOf : Conversion → Sides
+sidesOf c = record { reads = codingOf (source c); wide = wideForm (target c) }
 
 -- Whether a loop reads wide samples, whether it writes them, and what it writes.
 abbrev pub readsWide : Work → Bool
 readsWide (Widen line) = false
 readsWide (Narrow depth) = true
 readsWide (Change change) = true
-readsWide (Pixels rule) = true
+readsWide (Pixels rule depth) = wideForm (source (doneBy rule (bits depth)))
 
 abbrev pub writesWide : Work → Bool
 writesWide (Widen line) = true
 writesWide (Narrow depth) = false
 writesWide (Change change) = true
-writesWide (Pixels rule) = true
+writesWide (Pixels rule depth) = wideForm (target (doneBy rule (bits depth)))
 
 abbrev pub made : Work → List ℕ → List ℕ
 made (Widen line) src = bytesOf true (map (applied (sample.Affine line)) (samplesOf false src))
 made (Narrow depth) src = bytesOf false (map (applied (sample.ToEight (cutOf (bits depth)))) (samplesOf true src))
 made (Change change) src = bytesOf true (map (applied (ruleOf change)) (samplesOf true src))
-made (Pixels rule) src = write true (map (pixelApplied rule) (read true src))
+made (Pixels rule depth) src = converted (doneBy rule (bits depth)) src
 
 -- A plan of a conversion: what its source may be, and a loop that does it.
 pub record Plans (c : Conversion) (coding : Coding) (work : Work) : Type 0 where

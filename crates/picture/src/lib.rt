@@ -21,8 +21,9 @@ ghost use Rattle.samples.specs.Samples.{place, samplesOf, sampleBytes, bytesOf,
 ghost use Rattle.samples.specs.Faults.{Exact, wideCoding, sourceSays};
 ghost use Rattle.esrgb.specs.Depths.{bits, greatest};
 ghost use Rattle.esrgb.specs.HowApplied.{applied, ruleOf, cutOf};
-ghost use Rattle.picture.specs.Convert.{convertSays, convertBytes};
-ghost use Rattle.picture.specs.HowConverted.{pixelApplied, readsWide, writesWide, made, Planned};
+ghost use Rattle.lumachroma.specs.LumaChroma.{toLumaChroma, toRgb};
+ghost use Rattle.picture.specs.Convert.{needed, converted, convertSays, convertBytes};
+ghost use Rattle.picture.specs.HowConverted.{doneBy, pixelApplied, sidesOf, readsWide, writesWide, made, Planned};
 
 // The conversions of rule 4.1. A depth may be any number; rule 1.1 says which are offered.
 pub enum Conversion {
@@ -103,43 +104,82 @@ fn fill_srgb(depth: Depth, src: &[u8], dst: &mut [u8])
 
 // ---- the loop over pixels
 
-// What is done to each pixel of a picture.
+// What is done to each pixel of a picture. The depth stands apart: a rule that held one would be packed with
+// it into one number, and no loop would have its rule as a constant.
 pub enum PixelRule {
-    ToLumaChroma(Depth),
-    ToRgb(Depth),
+    ToLumaChroma,
+    FromLumaChroma,
 }
 
-fn apply_to_pixel(rule: PixelRule, p: Pixel) -> Pixel
-    ensures { λ r. ⌜ r ≡ pixelApplied rule p ⌝ }
+fn apply_to_pixel(rule: PixelRule, depth: Depth, p: Pixel) -> Pixel
+    ensures { λ r. ⌜ r ≡ pixelApplied rule (bits depth) p ⌝ }
 {
     match rule {
-        PixelRule::ToLumaChroma(depth) => lumachroma::to_luma_chroma(depth, p),
-        PixelRule::ToRgb(depth) => lumachroma::to_rgb(depth, p),
+        PixelRule::ToLumaChroma => lumachroma::to_luma_chroma(depth, p),
+        PixelRule::FromLumaChroma => lumachroma::to_rgb(depth, p),
     }
 }
 
 // Writes pixel i. As of `put`, what stands behind it is not said.
-fn put_pixel(dst: &mut [u8], i: usize, p: Pixel)
-    requires { ⌜ 6 * (i + 1) ≤ length (now dst) ⌝ }
-    ensures { λ _. ⌜ take (6 * (i + 1)) (now (dst .exit)) ≡ take (6 * i) (now (dst .entry)) ++ write true (p ∷ []) ⌝ }
+fn put_pixel(dst: &mut [u8], wide: bool, i: usize, p: Pixel)
+    requires { ⌜ place wide (3 * (i + 1)) ≤ length (now dst) ⌝ }
+    ensures { λ _. ⌜ take (place wide (3 * (i + 1))) (now (dst .exit)) ≡ take (place wide (3 * i)) (now (dst .entry)) ++ write wide (p ∷ []) ⌝ }
 {
     let k = 3 * i;
-    put(dst, true, k, p.first);
-    put(dst, true, k + 1, p.second);
-    put(dst, true, k + 2, p.third);
+    put(dst, wide, k, p.first);
+    put(dst, wide, k + 1, p.second);
+    put(dst, wide, k + 2, p.third);
 }
 
 // The conversions that need a whole pixel at a time. It goes by value from the bytes read to the bytes written.
-fn fill_pixels(rule: PixelRule, src: &[u8], dst: &mut [u8])
-    requires { ⌜ length (now dst) ≡ 6 * length (read true (now src)) ⌝ }
-    ensures { λ _. ⌜ now (dst .exit) ≡ write true (map (pixelApplied rule) (read true (now (src .entry)))) ⌝ }
+fn fill_pixels(
+    rule: PixelRule,
+    depth: Depth,
+    wide_in: bool,
+    wide_out: bool,
+    src: &[u8],
+    dst: &mut [u8],
+)
+    requires { ⌜ length (now dst) ≡ place «wide_out» (3 * length (read «wide_in» (now src))) ⌝ }
+    ensures { λ _. ⌜ now (dst .exit) ≡ write «wide_out» (map (pixelApplied rule (bits depth)) (read «wide_in» (now (src .entry)))) ⌝ }
 {
-    let end = src.len() / 6;
+    let end = src.len() / samples::pixel_size(wide_in);
     let mut i = 0;
     while i < end {
-        let p = samples::pixel_at(src, true, i);
-        put_pixel(dst, i, apply_to_pixel(rule, p));
+        let p = samples::pixel_at(src, wide_in, i);
+        put_pixel(dst, wide_out, i, apply_to_pixel(rule, depth, p));
         i += 1;
+    }
+}
+
+// A function for each rule, and so a loop of its own: of calls that differ in a constant only, in the arms of
+// one `match`, the compiler makes one loop for all rules.
+fn fill_to_luma_chroma(depth: Depth, src: &[u8], dst: &mut [u8])
+    requires { ⌜ length (now dst) ≡ place true (3 * length (read true (now src))) ⌝ }
+    ensures { λ _. ⌜ now (dst .exit) ≡ write true (map (toLumaChroma (bits depth)) (read true (now (src .entry)))) ⌝ }
+{
+    fill_pixels(PixelRule::ToLumaChroma, depth, true, true, src, dst);
+}
+
+fn fill_from_luma_chroma(depth: Depth, src: &[u8], dst: &mut [u8])
+    requires { ⌜ length (now dst) ≡ place true (3 * length (read true (now src))) ⌝ }
+    ensures { λ _. ⌜ now (dst .exit) ≡ write true (map (toRgb (bits depth)) (read true (now (src .entry)))) ⌝ }
+{
+    fill_pixels(PixelRule::FromLumaChroma, depth, true, true, src, dst);
+}
+
+// The conversion that a rule does, at a depth.
+fn fill_by_rule(rule: PixelRule, depth: Depth, src: &[u8], dst: &mut [u8])
+    requires { ⌜ length (now dst) ≡ needed (doneBy rule (bits depth)) (now src) ⌝ }
+    ensures { λ _. ⌜ now (dst .exit) ≡ converted (doneBy rule (bits depth)) (now (src .entry)) ⌝ }
+{
+    match rule {
+        PixelRule::ToLumaChroma => {
+            fill_to_luma_chroma(depth, src, dst);
+        }
+        PixelRule::FromLumaChroma => {
+            fill_from_luma_chroma(depth, src, dst);
+        }
     }
 }
 
@@ -150,7 +190,38 @@ pub enum Work {
     Widen(Line),
     Narrow(Depth),
     Change(DepthChange),
-    Pixels(PixelRule),
+    Pixels(PixelRule, Depth),
+}
+
+// Codes of a depth, with or without chroma.
+fn codes(depth: Depth, chroma: bool) -> Coding
+    ensures { λ r. ⌜ r ≡ Coding.Codes (greatest (bits depth)) chroma ⌝ }
+{
+    Coding::Codes {
+        greatest: esrgb::greatest_of(depth),
+        chroma,
+    }
+}
+
+// What a rule for pixels reads, and whether it writes wide samples.
+pub struct Sides {
+    pub reads: Coding,
+    pub wide: bool,
+}
+
+fn sides_of(rule: PixelRule, depth: Depth) -> Sides
+    ensures { λ r. ⌜ r ≡ sidesOf (doneBy rule (bits depth)) ⌝ }
+{
+    match rule {
+        PixelRule::ToLumaChroma => Sides {
+            reads: codes(depth, false),
+            wide: true,
+        },
+        PixelRule::FromLumaChroma => Sides {
+            reads: codes(depth, true),
+            wide: true,
+        },
+    }
 }
 
 // Does a loop write wide samples?
@@ -161,7 +232,7 @@ fn writes_wide(work: Work) -> bool
         Work::Widen(_) => true,
         Work::Narrow(_) => false,
         Work::Change(_) => true,
-        Work::Pixels(_) => true,
+        Work::Pixels(rule, depth) => sides_of(rule, depth).wide,
     }
 }
 
@@ -171,13 +242,16 @@ pub enum Plan {
     NotOffered,
 }
 
-// Codes of a depth, with or without chroma.
-fn codes(depth: Depth, chroma: bool) -> Coding
-    ensures { λ r. ⌜ r ≡ Coding.Codes (greatest (bits depth)) chroma ⌝ }
+// The plan of the conversion that a rule for pixels does.
+fn pixel_plan(rule: PixelRule, depth: u32) -> Plan
+    ensures { λ r. ⌜ Planned (doneBy rule depth) r ⌝ }
 {
-    Coding::Codes {
-        greatest: esrgb::greatest_of(depth),
-        chroma,
+    match esrgb::depth_of(depth) {
+        Offer::Offered(n) => {
+            let reads = sides_of(rule, n).reads;
+            Plan::Run(reads, Work::Pixels(rule, n))
+        }
+        Offer::NotOffered => Plan::NotOffered,
     }
 }
 
@@ -205,17 +279,8 @@ fn planned(conversion: Conversion) -> Plan
             },
             Offer::NotOffered => Plan::NotOffered,
         },
-        Conversion::ToLumaChroma { depth } => match esrgb::depth_of(depth) {
-            Offer::Offered(n) => Plan::Run(
-                codes(n, false),
-                Work::Pixels(PixelRule::ToLumaChroma(n)),
-            ),
-            Offer::NotOffered => Plan::NotOffered,
-        },
-        Conversion::FromLumaChroma { depth } => match esrgb::depth_of(depth) {
-            Offer::Offered(n) => Plan::Run(codes(n, true), Work::Pixels(PixelRule::ToRgb(n))),
-            Offer::NotOffered => Plan::NotOffered,
-        },
+        Conversion::ToLumaChroma { depth } => pixel_plan(PixelRule::ToLumaChroma, depth),
+        Conversion::FromLumaChroma { depth } => pixel_plan(PixelRule::FromLumaChroma, depth),
     }
 }
 
@@ -236,8 +301,8 @@ fn fill(work: Work, src: &[u8], dst: &mut [u8])
         Work::Change(change) => {
             fill_change(change, src, dst);
         }
-        Work::Pixels(rule) => {
-            fill_pixels(rule, src, dst);
+        Work::Pixels(rule, depth) => {
+            fill_by_rule(rule, depth, src, dst);
         }
     }
 }

@@ -10,13 +10,13 @@ use lib.ListN.{length, getD}
 use lib.Seq.{ext-getD}
 use Rattle.numbers.proofs.Bytes.{held}
 use Rattle.samples.specs.declared.Pixel.{Pixel}
-use Rattle.samples.specs.Samples.{place, pixelSize, bytesOf, pixel, pixelsOf, samplesIn, read, write}
-use Rattle.samples.proofs.Reading.{length-pixels, pixel-count}
+use Rattle.samples.specs.Samples.{place, pixelSize, samplesOf, bytesOf, pixel, pixelsOf, samplesIn, read, write}
+use Rattle.samples.proofs.Reading.{length-samples, length-pixels}
 
 -- ---- lengths
 pub length-read : (wide : Bool) (bytes : List ℕ) → length (read wide bytes) ≡ length bytes / pixelSize wide
-length-read true bytes = omega (arith, pixel-count true bytes)
-length-read false bytes = pixel-count false bytes
+length-read true bytes = omega (arith, length-pixels (samplesOf true bytes), length-samples true bytes)
+length-read false bytes = length-pixels bytes
 
 length-bytes : (wide : Bool) (xs : List ℕ) → length (bytesOf wide xs) ≡ place wide (length xs)
 length-bytes true [] = refl

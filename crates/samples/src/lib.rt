@@ -77,11 +77,12 @@ pub struct Pixel {
     pub third: u16,
 }
 
-// Pixel i of a buffer, or zeros behind the last.
+// Pixel i of a buffer, or zeros behind the last. In a loop up to the same quotient, the compiler leaves the
+// test out.
 pub fn pixel_at(src: &[u8], wide: bool, i: usize) -> Pixel
     ensures { λ r. ⌜ r ≡ getD (read wide (now (src .entry))) i noPixel ⌝ }
 {
-    if sample_count(wide, src.len()) / 3 <= i {
+    if src.len() / pixel_size(wide) <= i {
         return Pixel {
             first: 0,
             second: 0,

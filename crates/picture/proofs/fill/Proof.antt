@@ -7,7 +7,7 @@ use denote.Ref.{now}
 use Rattle.samples.specs.Faults.{Exact}
 use Rattle.picture.specs.declared.Work.{Work}
 use Rattle.picture.specs.HowConverted.{readsWide, writesWide, made}
-use Rattle.picture.proofs.Planning.{room-samples, room-pixels}
+use Rattle.picture.proofs.Planning.{room-samples}
 use borrow.Author.Needs.{needs}
 use Rattle.picture.proofs.fill.Statement.{statement}
 use Rattle.picture.proofs.fill.Tie as tie
@@ -46,10 +46,9 @@ fill-change-requires c κs =
 enum-known-work-4 : tie.Need-enum-known-work-4
 enum-known-work-4 c = search needs
 
-fill-pixels-requires : tie.Need-fill-pixels-requires
-fill-pixels-requires c κs =
-    let s = c .before .before .before .before .before .before in
-    room-pixels (now (s .args .src)) (now (s .args .dst)) (exact s _ (c .before .before .work4 .given .1))
+fill-by-rule-requires : tie.Need-fill-by-rule-requires
+fill-by-rule-requires c κs =
+    exact (c .before .before .before .before .before .before) _ (c .before .before .work4 .given .1) .room-is
 
 same-length : tie.Need-same-length
 same-length c = search needs
@@ -73,7 +72,7 @@ same-length-4 : tie.Need-same-length-4
 same-length-4 c = search needs
 
 returns-4 : tie.Need-returns-4
-returns-4 c = c .before .before .fill-pixels .ensures ∙ made-by (c .before .before .before .before .before .before .before .before .before) _ (c .before .before .before .before .before .work4 .given .1)
+returns-4 c = c .before .before .fill-by-rule .ensures ∙ made-by (c .before .before .before .before .before .before .before .before .before) _ (c .before .before .before .before .before .work4 .given .1)
 
 pub fill-spec : {M : Type 1} → statement M
 fill-spec =
@@ -86,7 +85,7 @@ fill-spec =
     enum-known-work-3
     fill-change-requires
     enum-known-work-4
-    fill-pixels-requires
+    fill-by-rule-requires
     same-length
     returns
     same-length-2

@@ -1,12 +1,13 @@
 -- `picture::planned` meets its contract: in each arm the conversion and its depths are known, and the loop is the one that does it.
 -- Assumes nothing.
 use Rattle.picture.specs.Convert.{offers}
-use mathlib.Core.Path.{_≡_, refl, ap, ap₂, subst, _∙_}
+use mathlib.Core.Path.{_≡_, refl, sym, ap, ap₂, subst, _∙_}
 use Rattle.numbers.proofs.Booleans.{and-false}
 use Rattle.esrgb.specs.Depths.{bits, offered, Names}
-use Rattle.picture.specs.declared.Conversion.the-variants.{FromSrgb, ToSrgb, ChangeDepth, ToLumaChroma, FromLumaChroma}
+use Rattle.picture.specs.declared.Conversion.the-variants.{FromSrgb, ToSrgb, ChangeDepth}
 use Rattle.picture.specs.declared.Work.the-variants.{Widen, Change}
-use Rattle.picture.proofs.Planning.{same-plan, plan-from-srgb, plan-to-srgb, plan-change, plan-to-luma-chroma, plan-from-luma-chroma}
+use Rattle.picture.proofs.Planning.{same-plan, plan-from-srgb, plan-to-srgb, plan-change}
+use Rattle.picture.specs.HowConverted.{Planned}
 use borrow.Author.Needs.{needs}
 use Rattle.picture.proofs.planned.Statement.{statement}
 use Rattle.picture.proofs.planned.Tie as tie
@@ -71,32 +72,14 @@ enum-told-4 c = search needs
 enum-known-conversion-4 : tie.Need-enum-known-conversion-4
 enum-known-conversion-4 c = search needs
 
-depth-of-requires-5 : tie.Need-depth-of-requires-5
-depth-of-requires-5 c κs = search needs
-
-enum-known-n-4 : tie.Need-enum-known-n-4
-enum-known-n-4 c = search needs
-
-codes-requires-3 : tie.Need-codes-requires-3
-codes-requires-3 c κs = search needs
-
-enum-told-5 : tie.Need-enum-told-5
-enum-told-5 c = search needs
+pixel-plan-requires : tie.Need-pixel-plan-requires
+pixel-plan-requires c κs = search needs
 
 enum-known-conversion-5 : tie.Need-enum-known-conversion-5
 enum-known-conversion-5 c = search needs
 
-depth-of-requires-6 : tie.Need-depth-of-requires-6
-depth-of-requires-6 c κs = search needs
-
-enum-known-n-5 : tie.Need-enum-known-n-5
-enum-known-n-5 c = search needs
-
-codes-requires-4 : tie.Need-codes-requires-4
-codes-requires-4 c κs = search needs
-
-enum-told-6 : tie.Need-enum-told-6
-enum-told-6 c = search needs
+pixel-plan-requires-2 : tie.Need-pixel-plan-requires-2
+pixel-plan-requires-2 c κs = search needs
 
 returns : tie.Need-returns
 returns c =
@@ -142,28 +125,10 @@ returns-7 c =
     ap offers (conversion .1) ∙ rw none
 
 returns-8 : tie.Need-returns-8
-returns-8 c =
-    let conversion = c .before .before .before .before .before .before .conversion4 .given in
-    let named = subst (Names (conversion .0 .0)) (c .before .before .n4 .given .1) (c .before .before .before .before .depth-of5 .ensures) in
-    same-plan (conversion .1 ∙ ap ToLumaChroma named) (c .codes3 .ensures) refl (plan-to-luma-chroma _)
+returns-8 c = subst (λ conversion. Planned conversion (c .pixel-plan .result)) (sym (c .before .before .conversion4 .given .1)) (c .pixel-plan .ensures)
 
 returns-9 : tie.Need-returns-9
-returns-9 c =
-    let conversion = c .before .before .before .before .conversion4 .given in
-    let none = subst (Names (conversion .0 .0)) (c .enum-told5 .given .1) (c .before .before .depth-of5 .ensures) in
-    ap offers (conversion .1) ∙ rw none
-
-returns-10 : tie.Need-returns-10
-returns-10 c =
-    let conversion = c .before .before .before .before .before .before .conversion5 .given in
-    let named = subst (Names (conversion .0 .0)) (c .before .before .n5 .given .1) (c .before .before .before .before .depth-of6 .ensures) in
-    same-plan (conversion .1 ∙ ap FromLumaChroma named) (c .codes4 .ensures) refl (plan-from-luma-chroma _)
-
-returns-11 : tie.Need-returns-11
-returns-11 c =
-    let conversion = c .before .before .before .before .conversion5 .given in
-    let none = subst (Names (conversion .0 .0)) (c .enum-told6 .given .1) (c .before .before .depth-of6 .ensures) in
-    ap offers (conversion .1) ∙ rw none
+returns-9 c = subst (λ conversion. Planned conversion (c .pixel-plan2 .result)) (sym (c .before .before .conversion5 .given .1)) (c .pixel-plan2 .ensures)
 
 pub planned-spec : {M : Type 1} → statement M
 planned-spec =
@@ -189,15 +154,9 @@ planned-spec =
     enum-told-3
     enum-told-4
     enum-known-conversion-4
-    depth-of-requires-5
-    enum-known-n-4
-    codes-requires-3
-    enum-told-5
+    pixel-plan-requires
     enum-known-conversion-5
-    depth-of-requires-6
-    enum-known-n-5
-    codes-requires-4
-    enum-told-6
+    pixel-plan-requires-2
     returns
     returns-2
     returns-3
@@ -206,6 +165,4 @@ planned-spec =
     returns-6
     returns-7
     returns-8
-    returns-9
-    returns-10
-    returns-11)
+    returns-9)

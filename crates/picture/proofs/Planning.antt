@@ -111,7 +111,7 @@ module _ (d : Depth) where
         same-samples true _ (changeDepth (bits d) (bits to)) (samplesOf true src) computes ∙ by-pixels true true (changeDepth (bits d) (bits to)) src whole;
   }
 
--- ---- the conversions of the rules for pixels: at any depth, only that is asked
+-- ---- the conversions of the rules for pixels, each offered where its depth is
 and-same : (b : Bool) → b && b ≡ b
 and-same true = refl
 and-same false = refl

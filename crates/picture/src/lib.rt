@@ -104,8 +104,8 @@ fn fill_srgb(depth: Depth, src: &[u8], dst: &mut [u8])
 
 // ---- the loop over pixels
 
-// What is done to each pixel of a picture. The depth stands apart: a rule that held one would be packed with
-// it into one number, and no loop would have its rule as a constant.
+// What is done to each pixel of a picture. The depth stands apart, so that each loop has its rule as a
+// constant.
 pub enum PixelRule {
     ToLumaChroma,
     FromLumaChroma,
@@ -132,6 +132,7 @@ fn put_pixel(dst: &mut [u8], wide: bool, i: usize, p: Pixel)
 }
 
 // The conversions that need a whole pixel at a time. It goes by value from the bytes read to the bytes written.
+// The loop ends at the quotient that `pixel_at` tests, so that the compiler leaves the test out.
 fn fill_pixels(
     rule: PixelRule,
     depth: Depth,

@@ -77,8 +77,8 @@ pub struct Pixel {
     pub third: u16,
 }
 
-// Pixel i of a buffer, or zeros behind the last. In a loop up to the same quotient, the compiler leaves the
-// test out.
+// Pixel i of a buffer, or zeros behind the last. In a loop that ends at the same quotient, the compiler leaves
+// the test out.
 pub fn pixel_at(src: &[u8], wide: bool, i: usize) -> Pixel
     ensures { λ r. ⌜ r ≡ getD (read wide (now (src .entry))) i noPixel ⌝ }
 {

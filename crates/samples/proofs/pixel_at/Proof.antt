@@ -51,7 +51,7 @@ add-held-sample-2 : tie.Need-add-held-sample-2
 add-held-sample-2 c = omega (arith, below (c .before .before))
 
 held-sample-requires-3 : tie.Need-held-sample-requires-3
-held-sample-requires-3 c κs = held (c .before .before)
+held-sample-requires-3 c κs = omega (arith, held (c .before .before))
 
 returns-2 : tie.Need-returns-2
 returns-2 c =

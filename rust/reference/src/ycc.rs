@@ -215,7 +215,7 @@ mod tests {
     }
 
     /// 10 bits: (1023, 1023, 0) are the levels 639, 639, -384 over 510, with luma 522.378 / 510, which is above 1. Blue
-    /// chroma is -906.378 / (510 * 3.544) = -0.501471, which times 1,023 plus 512 is -1.005; red chroma is 116.622 /
+    /// chroma is -906.378 / (510 * 3.544) = -0.501471, which times 1,023 plus 512 is -1.004; red chroma is 116.622 /
     /// (510 * 2.804) = 0.081551, which gives 595.427.
     ///
     /// Red comes back from (306, 426, 768), which are 306, -86 and 256 over 1,023. B9 makes 1023.824, -0.434 and 1.293

@@ -6,6 +6,7 @@ use esrgb::step_of;
 use numbers::excess;
 use samples::Pixel;
 ghost use mathlib.Core.Path.{_≡_};
+ghost use lib.Dec.{eqb};
 ghost use Prim.Native.Nat.{_+_, _-_, _*_, _/_, _%_, _^_, _≤_, _<_, min};
 ghost use Rattle.esrgb.specs.Depths.{bits, middle};
 ghost use Rattle.lumachroma.specs.LumaChroma.{luma, blueChroma, redChroma, toLumaChroma, toRgb};
@@ -86,11 +87,38 @@ fn biased_quotient(p: Pixel, channel: u16, den: u32, estimate: u16) -> u32
     (estimate as u32) + ((rest(dividend, den, estimate) / (den as u16)) as u32)
 }
 
-// The middle code, in the width of the sums here.
-fn middle_of(depth: Depth) -> u32
-    ensures { λ r. ⌜ (r ≡ middle (bits depth)) × Middle r ⌝ }
+// The bias less the middle code, by two questions and not by a `match` of three arms: that would stay a jump in
+// the loop over pixels, and the compiler would take one pixel at a time.
+fn is_ten(depth: Depth) -> bool
+    ensures { λ r. ⌜ r ≡ eqb (bits depth) 10 ⌝ }
 {
-    256 * (step_of(depth) as u32)
+    match depth {
+        Depth::Ten => true,
+        Depth::Twelve => false,
+        Depth::Sixteen => false,
+    }
+}
+
+fn is_sixteen(depth: Depth) -> bool
+    ensures { λ r. ⌜ r ≡ eqb (bits depth) 16 ⌝ }
+{
+    match depth {
+        Depth::Ten => false,
+        Depth::Twelve => false,
+        Depth::Sixteen => true,
+    }
+}
+
+fn above_middle(depth: Depth) -> u16
+    ensures { λ r. ⌜ r ≡ bias - middle (bits depth) ⌝ }
+{
+    if is_ten(depth) {
+        return (BIAS - 512) as u16;
+    }
+    if is_sixteen(depth) {
+        return 0;
+    }
+    (BIAS - 2048) as u16
 }
 
 // A quotient with the middle code of the depth in place of the bias, and 0 where that would be less.
@@ -98,8 +126,7 @@ fn unbiased(depth: Depth, quotient: u32) -> u16
     requires { ⌜ quotient < span ⌝ }
     ensures { λ r. ⌜ r ≡ quotient - (bias - middle (bits depth)) ⌝ }
 {
-    let low = BIAS - middle_of(depth);
-    excess(quotient as u16, low as u16)
+    excess(quotient as u16, above_middle(depth))
 }
 
 // Stored blue chroma (rules 2.3 and 2.4).
@@ -133,6 +160,13 @@ pub fn to_luma_chroma(depth: Depth, p: Pixel) -> Pixel
 }
 
 // ---- the way back
+
+// The middle code, in the width of the sums here.
+fn middle_of(depth: Depth) -> u32
+    ensures { λ r. ⌜ (r ≡ middle (bits depth)) × Middle r ⌝ }
+{
+    256 * (step_of(depth) as u32)
+}
 
 // What a sum stands too high until it is clipped, so that none is below 0.
 const LIFT: u32 = 262144;

@@ -17,7 +17,7 @@ use Rattle.esrgb.specs.declared.Depth.{Depth}
 use Rattle.esrgb.specs.declared.SampleRule.{SampleRule}
 use Rattle.esrgb.specs.Depths.{offered, bits, greatest}
 use Rattle.esrgb.specs.Codes.{fromSrgb, toSrgb, changeDepth}
-use Rattle.esrgb.specs.HowApplied.{applied, Computes, lineOf, cutOf, changeOf}
+use Rattle.esrgb.specs.HowApplied.{applied, Computes, lineOf, changeOf}
 use Rattle.esrgb.proofs.Scale.{scale, offered-bits}
 use Rattle.esrgb.proofs.Rules.{from-srgb-computes, to-srgb-computes, change-computes}
 use Rattle.picture.specs.declared.Conversion.{Conversion}

@@ -10,7 +10,7 @@ use lib.ListN.{length, getD, length-map, List·getD-map}
 use Rattle.refusal.specs.Answers.{Said, accepted, leaves}
 use Rattle.samples.specs.declared.Pixel.{Pixel}
 use Rattle.samples.specs.Samples.{pixelSize, noPixel, read}
-use Rattle.samples.specs.Faults.{samplesSay, sourceSays}
+use Rattle.samples.specs.Faults.{sourceSays}
 use Rattle.samples.proofs.Buffers.{length-read, length-write, pixels-in-size, Fits, written-at}
 use Rattle.samples.proofs.Judging.{SoundPixel, Sounds, sound-pixels}
 use Rattle.samples.proofs.Order.{says-samples}

@@ -1,9 +1,9 @@
 -- `picture::planned` meets its contract: in each arm the conversion and its depths are known, and the loop is the one that does it.
 -- Assumes nothing.
 use Rattle.picture.specs.Convert.{offers}
-use mathlib.Core.Path.{_≡_, refl, sym, ap, ap₂, subst, _∙_}
+use mathlib.Core.Path.{refl, sym, ap, ap₂, subst, _∙_}
 use Rattle.numbers.proofs.Booleans.{and-false}
-use Rattle.esrgb.specs.Depths.{bits, offered, Names}
+use Rattle.esrgb.specs.Depths.{offered, Names}
 use Rattle.picture.specs.declared.Conversion.the-variants.{FromSrgb, ToSrgb, ChangeDepth}
 use Rattle.picture.specs.declared.Work.the-variants.{Widen, Change}
 use Rattle.picture.proofs.Planning.{same-plan, plan-from-srgb, plan-to-srgb, plan-change}

@@ -2,7 +2,6 @@
 -- Assumes nothing.
 use mathlib.Core.Path.{_∙_}
 use native.Mathlib.Omega.{arith}
-use borrow.Author.Needs.{needs}
 use Rattle.samples.proofs.held_sample.Statement.{statement}
 use Rattle.samples.proofs.held_sample.Tie as tie
 

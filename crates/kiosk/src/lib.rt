@@ -130,6 +130,38 @@ pub extern "C" fn kiosk_from_luma_chroma(
     converted(Conversion::FromLumaChroma { depth }, src, dst, place)
 }
 
+// E-sRGB to e-sYCC.
+#[no_mangle]
+pub extern "C" fn kiosk_to_esycc(depth: u32, src: &[u8], dst: &mut [u8], place: &mut usize) -> i64
+    ensures { λ r. ⌜ Converts (Conversion.ToEsycc depth) (now (src .entry)) r (now (dst .entry)) (now (dst .exit)) (now (place .entry)) (now (place .exit)) ⌝ }
+{
+    converted(Conversion::ToEsycc { depth }, src, dst, place)
+}
+
+// e-sYCC to e-sRGB.
+#[no_mangle]
+pub extern "C" fn kiosk_from_esycc(depth: u32, src: &[u8], dst: &mut [u8], place: &mut usize) -> i64
+    ensures { λ r. ⌜ Converts (Conversion.FromEsycc depth) (now (src .entry)) r (now (dst .entry)) (now (dst .exit)) (now (place .entry)) (now (place .exit)) ⌝ }
+{
+    converted(Conversion::FromEsycc { depth }, src, dst, place)
+}
+
+// E-sRGB to sYCC.
+#[no_mangle]
+pub extern "C" fn kiosk_to_sycc(depth: u32, src: &[u8], dst: &mut [u8], place: &mut usize) -> i64
+    ensures { λ r. ⌜ Converts (Conversion.ToSycc depth) (now (src .entry)) r (now (dst .entry)) (now (dst .exit)) (now (place .entry)) (now (place .exit)) ⌝ }
+{
+    converted(Conversion::ToSycc { depth }, src, dst, place)
+}
+
+// sYCC to e-sRGB.
+#[no_mangle]
+pub extern "C" fn kiosk_from_sycc(depth: u32, src: &[u8], dst: &mut [u8], place: &mut usize) -> i64
+    ensures { λ r. ⌜ Converts (Conversion.FromSycc depth) (now (src .entry)) r (now (dst .entry)) (now (dst .exit)) (now (place .entry)) (now (place .exit)) ⌝ }
+{
+    converted(Conversion::FromSycc { depth }, src, dst, place)
+}
+
 // ---- linear light
 
 // E-sRGB codes to linear light.

@@ -116,9 +116,17 @@ and-same : (b : Bool) → b && b ≡ b
 and-same true = refl
 and-same false = refl
 
+with-true : (b : Bool) → b && true ≡ b
+with-true true = refl
+with-true false = refl
+
 pub offers-done : (rule : PixelRule) (n : ℕ) → offers (doneBy rule n) ≡ offered n
 offers-done rule.ToLumaChroma n = and-same (offered n)
 offers-done rule.FromLumaChroma n = and-same (offered n)
+offers-done rule.ToEsycc n = and-same (offered n)
+offers-done rule.FromEsycc n = and-same (offered n)
+offers-done rule.ToSycc n = with-true (offered n)
+offers-done rule.FromSycc n = refl
 
 pub plan-pixels : (rule : PixelRule) (d : Depth) → Plans (doneBy rule (bits d)) (codingOf (source (doneBy rule (bits d)))) (Pixels rule d)
 plan-pixels rule d = record { offered = offers-done rule (bits d) ∙ offered-bits d; coding-is = refl; reads = refl; writes = refl; makes = λ src whole. refl }

@@ -10,9 +10,11 @@ use Rattle.samples.specs.Samples.{pixelSize, pixel, read, write}
 use Rattle.samples.specs.Faults.{sourceSays}
 use Rattle.esrgb.specs.Codes.{fromSrgb, toSrgb, changeDepth}
 use Rattle.lumachroma.specs.LumaChroma.{toLumaChroma, toRgb}
+use Rattle.esycc.specs.Esycc.{toEsycc, fromEsycc}
+use Rattle.esycc.specs.Sycc.{toSycc, fromSycc}
 use Rattle.picture.specs.declared.Conversion.{Conversion}
-use Rattle.picture.specs.declared.Conversion.the-variants.{FromSrgb, ToSrgb, ChangeDepth, ToLumaChroma, FromLumaChroma}
-use Rattle.picture.specs.Forms.{Form, srgb, esrgb, lumaChroma, codingOf, wideForm, pixelsIn, offersForm}
+use Rattle.picture.specs.declared.Conversion.the-variants.{FromSrgb, ToSrgb, ChangeDepth, ToLumaChroma, FromLumaChroma, ToEsycc, FromEsycc, ToSycc, FromSycc}
+use Rattle.picture.specs.Forms.{Form, srgb, esrgb, lumaChroma, esycc, sycc, codingOf, wideForm, pixelsIn, offersForm}
 
 -- Rule 4.1, a row for each conversion: what it reads, what it writes, and what it does to one pixel.
 pub record Row : Type 0 where
@@ -29,6 +31,10 @@ row (ToSrgb n) = record { reads = esrgb n; writes = srgb; does = each (toSrgb n)
 row (ChangeDepth n m) = record { reads = esrgb n; writes = esrgb m; does = each (changeDepth n m) }
 row (ToLumaChroma n) = record { reads = esrgb n; writes = lumaChroma n; does = toLumaChroma n }
 row (FromLumaChroma n) = record { reads = lumaChroma n; writes = esrgb n; does = toRgb n }
+row (ToEsycc n) = record { reads = esrgb n; writes = esycc n; does = toEsycc n }
+row (FromEsycc n) = record { reads = esycc n; writes = esrgb n; does = fromEsycc n }
+row (ToSycc n) = record { reads = esrgb n; writes = sycc; does = toSycc n }
+row (FromSycc n) = record { reads = sycc; writes = esrgb n; does = fromSycc n }
 
 abbrev pub source : Conversion → Form
 source c = row c .reads

@@ -10,11 +10,13 @@ use Rattle.samples.specs.Samples.{pixelSize}
 use Rattle.samples.specs.Faults.{wideCoding}
 use Rattle.esrgb.specs.Depths.{offered, greatest}
 
--- 8-bit sRGB, e-sRGB of a depth, or luma and chroma of a depth.
+-- 8-bit sRGB, e-sRGB of a depth, luma and chroma of a depth, e-sYCC of a depth, or 8-bit sYCC.
 pub data Form : Type 0 where
   srgb : Form
   esrgb : ℕ → Form
   lumaChroma : ℕ → Form
+  esycc : ℕ → Form
+  sycc : Form
 
 -- A row for each form: the bits of its samples; what they may be, and whether a chroma of 0 is at fault (rule 4.3); whether its depth is
 -- offered (rule 4.2, 9).
@@ -27,6 +29,8 @@ abbrev pub formRow : Form → FormRow
 formRow srgb = record { bits = 8; coding = Bytes; offers = true }
 formRow (esrgb n) = record { bits = n; coding = Codes (greatest n) false; offers = offered n }
 formRow (lumaChroma n) = record { bits = n; coding = Codes (greatest n) true; offers = offered n }
+formRow (esycc n) = record { bits = n; coding = Codes (greatest n) false; offers = offered n }
+formRow sycc = record { bits = 8; coding = Bytes; offers = true }
 
 abbrev pub bitsOf : Form → ℕ
 bitsOf form = formRow form .bits

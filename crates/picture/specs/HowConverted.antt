@@ -13,7 +13,7 @@ use Rattle.esrgb.specs.Depths.{bits}
 use Rattle.esrgb.specs.declared.SampleRule.the-variants as sample
 use Rattle.esrgb.specs.HowApplied.{applied, ruleOf, cutOf}
 use Rattle.picture.specs.declared.Conversion.{Conversion}
-use Rattle.picture.specs.declared.Conversion.the-variants.{ToLumaChroma, FromLumaChroma}
+use Rattle.picture.specs.declared.Conversion.the-variants.{ToLumaChroma, FromLumaChroma, ToEsycc, FromEsycc, ToSycc, FromSycc}
 use Rattle.picture.specs.declared.PixelRule.{PixelRule}
 use Rattle.picture.specs.declared.PixelRule.the-variants as rule
 use Rattle.picture.specs.declared.Sides.{Sides}
@@ -28,6 +28,10 @@ use Rattle.picture.specs.Convert.{source, target, pixelOf, offers, conve
 abbrev pub doneBy : PixelRule → ℕ → Conversion
 doneBy rule.ToLumaChroma n = ToLumaChroma n
 doneBy rule.FromLumaChroma n = FromLumaChroma n
+doneBy rule.ToEsycc n = ToEsycc n
+doneBy rule.FromEsycc n = FromEsycc n
+doneBy rule.ToSycc n = ToSycc n
+doneBy rule.FromSycc n = FromSycc n
 
 -- So what it does to a pixel.
 abbrev pub pixelApplied : PixelRule → ℕ → Pixel → Pixel

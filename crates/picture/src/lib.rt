@@ -22,6 +22,8 @@ ghost use Rattle.samples.specs.Faults.{Exact, wideCoding, sourceSays};
 ghost use Rattle.esrgb.specs.Depths.{bits, greatest};
 ghost use Rattle.esrgb.specs.HowApplied.{applied, ruleOf, cutOf};
 ghost use Rattle.lumachroma.specs.LumaChroma.{toLumaChroma, toRgb};
+ghost use Rattle.esycc.specs.Esycc.{toEsycc, fromEsycc};
+ghost use Rattle.esycc.specs.Sycc.{toSycc, fromSycc};
 ghost use Rattle.picture.specs.Convert.{needed, converted, convertSays, convertBytes};
 ghost use Rattle.picture.specs.HowConverted.{doneBy, pixelApplied, sidesOf, readsWide, writesWide, made, Planned};
 
@@ -32,6 +34,10 @@ pub enum Conversion {
     ChangeDepth { from: u32, to: u32 },
     ToLumaChroma { depth: u32 },
     FromLumaChroma { depth: u32 },
+    ToEsycc { depth: u32 },
+    FromEsycc { depth: u32 },
+    ToSycc { depth: u32 },
+    FromSycc { depth: u32 },
 }
 
 // ---- the loop over samples
@@ -109,6 +115,10 @@ fn fill_srgb(depth: Depth, src: &[u8], dst: &mut [u8])
 pub enum PixelRule {
     ToLumaChroma,
     FromLumaChroma,
+    ToEsycc,
+    FromEsycc,
+    ToSycc,
+    FromSycc,
 }
 
 fn apply_to_pixel(rule: PixelRule, depth: Depth, p: Pixel) -> Pixel
@@ -117,6 +127,10 @@ fn apply_to_pixel(rule: PixelRule, depth: Depth, p: Pixel) -> Pixel
     match rule {
         PixelRule::ToLumaChroma => lumachroma::to_luma_chroma(depth, p),
         PixelRule::FromLumaChroma => lumachroma::to_rgb(depth, p),
+        PixelRule::ToEsycc => esycc::to_esycc(depth, p),
+        PixelRule::FromEsycc => esycc::from_esycc(depth, p),
+        PixelRule::ToSycc => esycc::to_sycc(depth, p),
+        PixelRule::FromSycc => esycc::from_sycc(depth, p),
     }
 }
 
@@ -169,6 +183,73 @@ fn fill_from_luma_chroma(depth: Depth, src: &[u8], dst: &mut [u8])
     fill_pixels(PixelRule::FromLumaChroma, depth, true, true, src, dst);
 }
 
+// A loop for each depth too, in which the numbers of the depth are constants. As above, each is a function.
+fn fill_ten(rule: PixelRule, wide_in: bool, wide_out: bool, src: &[u8], dst: &mut [u8])
+    requires { ⌜ length (now dst) ≡ place «wide_out» (3 * length (read «wide_in» (now src))) ⌝ }
+    ensures { λ _. ⌜ now (dst .exit) ≡ write «wide_out» (map (pixelApplied rule 10) (read «wide_in» (now (src .entry)))) ⌝ }
+{
+    fill_pixels(rule, Depth::Ten, wide_in, wide_out, src, dst);
+}
+
+fn fill_twelve(rule: PixelRule, wide_in: bool, wide_out: bool, src: &[u8], dst: &mut [u8])
+    requires { ⌜ length (now dst) ≡ place «wide_out» (3 * length (read «wide_in» (now src))) ⌝ }
+    ensures { λ _. ⌜ now (dst .exit) ≡ write «wide_out» (map (pixelApplied rule 12) (read «wide_in» (now (src .entry)))) ⌝ }
+{
+    fill_pixels(rule, Depth::Twelve, wide_in, wide_out, src, dst);
+}
+
+fn fill_sixteen(rule: PixelRule, wide_in: bool, wide_out: bool, src: &[u8], dst: &mut [u8])
+    requires { ⌜ length (now dst) ≡ place «wide_out» (3 * length (read «wide_in» (now src))) ⌝ }
+    ensures { λ _. ⌜ now (dst .exit) ≡ write «wide_out» (map (pixelApplied rule 16) (read «wide_in» (now (src .entry)))) ⌝ }
+{
+    fill_pixels(rule, Depth::Sixteen, wide_in, wide_out, src, dst);
+}
+
+fn fill_at(depth: Depth, rule: PixelRule, wide_in: bool, wide_out: bool, src: &[u8], dst: &mut [u8])
+    requires { ⌜ length (now dst) ≡ place «wide_out» (3 * length (read «wide_in» (now src))) ⌝ }
+    ensures { λ _. ⌜ now (dst .exit) ≡ write «wide_out» (map (pixelApplied rule (bits depth)) (read «wide_in» (now (src .entry)))) ⌝ }
+{
+    match depth {
+        Depth::Ten => {
+            fill_ten(rule, wide_in, wide_out, src, dst);
+        }
+        Depth::Twelve => {
+            fill_twelve(rule, wide_in, wide_out, src, dst);
+        }
+        Depth::Sixteen => {
+            fill_sixteen(rule, wide_in, wide_out, src, dst);
+        }
+    }
+}
+
+fn fill_to_esycc(depth: Depth, src: &[u8], dst: &mut [u8])
+    requires { ⌜ length (now dst) ≡ place true (3 * length (read true (now src))) ⌝ }
+    ensures { λ _. ⌜ now (dst .exit) ≡ write true (map (toEsycc (bits depth)) (read true (now (src .entry)))) ⌝ }
+{
+    fill_at(depth, PixelRule::ToEsycc, true, true, src, dst);
+}
+
+fn fill_from_esycc(depth: Depth, src: &[u8], dst: &mut [u8])
+    requires { ⌜ length (now dst) ≡ place true (3 * length (read true (now src))) ⌝ }
+    ensures { λ _. ⌜ now (dst .exit) ≡ write true (map (fromEsycc (bits depth)) (read true (now (src .entry)))) ⌝ }
+{
+    fill_at(depth, PixelRule::FromEsycc, true, true, src, dst);
+}
+
+fn fill_to_sycc(depth: Depth, src: &[u8], dst: &mut [u8])
+    requires { ⌜ length (now dst) ≡ place false (3 * length (read true (now src))) ⌝ }
+    ensures { λ _. ⌜ now (dst .exit) ≡ write false (map (toSycc (bits depth)) (read true (now (src .entry)))) ⌝ }
+{
+    fill_at(depth, PixelRule::ToSycc, true, false, src, dst);
+}
+
+fn fill_from_sycc(depth: Depth, src: &[u8], dst: &mut [u8])
+    requires { ⌜ length (now dst) ≡ place true (3 * length (read false (now src))) ⌝ }
+    ensures { λ _. ⌜ now (dst .exit) ≡ write true (map (fromSycc (bits depth)) (read false (now (src .entry)))) ⌝ }
+{
+    fill_at(depth, PixelRule::FromSycc, false, true, src, dst);
+}
+
 // The conversion that a rule does, at a depth.
 fn fill_by_rule(rule: PixelRule, depth: Depth, src: &[u8], dst: &mut [u8])
     requires { ⌜ length (now dst) ≡ needed (doneBy rule (bits depth)) (now src) ⌝ }
@@ -180,6 +261,18 @@ fn fill_by_rule(rule: PixelRule, depth: Depth, src: &[u8], dst: &mut [u8])
         }
         PixelRule::FromLumaChroma => {
             fill_from_luma_chroma(depth, src, dst);
+        }
+        PixelRule::ToEsycc => {
+            fill_to_esycc(depth, src, dst);
+        }
+        PixelRule::FromEsycc => {
+            fill_from_esycc(depth, src, dst);
+        }
+        PixelRule::ToSycc => {
+            fill_to_sycc(depth, src, dst);
+        }
+        PixelRule::FromSycc => {
+            fill_from_sycc(depth, src, dst);
         }
     }
 }
@@ -220,6 +313,22 @@ fn sides_of(rule: PixelRule, depth: Depth) -> Sides
         },
         PixelRule::FromLumaChroma => Sides {
             reads: codes(depth, true),
+            wide: true,
+        },
+        PixelRule::ToEsycc => Sides {
+            reads: codes(depth, false),
+            wide: true,
+        },
+        PixelRule::FromEsycc => Sides {
+            reads: codes(depth, false),
+            wide: true,
+        },
+        PixelRule::ToSycc => Sides {
+            reads: codes(depth, false),
+            wide: false,
+        },
+        PixelRule::FromSycc => Sides {
+            reads: Coding::Bytes,
             wide: true,
         },
     }
@@ -282,6 +391,10 @@ fn planned(conversion: Conversion) -> Plan
         },
         Conversion::ToLumaChroma { depth } => pixel_plan(PixelRule::ToLumaChroma, depth),
         Conversion::FromLumaChroma { depth } => pixel_plan(PixelRule::FromLumaChroma, depth),
+        Conversion::ToEsycc { depth } => pixel_plan(PixelRule::ToEsycc, depth),
+        Conversion::FromEsycc { depth } => pixel_plan(PixelRule::FromEsycc, depth),
+        Conversion::ToSycc { depth } => pixel_plan(PixelRule::ToSycc, depth),
+        Conversion::FromSycc { depth } => pixel_plan(PixelRule::FromSycc, depth),
     }
 }
 

@@ -46,6 +46,30 @@ enum-told-2 c = search needs
 fill-from-luma-chroma-requires : tie.Need-fill-from-luma-chroma-requires
 fill-from-luma-chroma-requires c κs = room (c .before .before .before .before .before) _ (c .before .enum-told2 .given .1)
 
+enum-told-3 : tie.Need-enum-told-3
+enum-told-3 c = search needs
+
+fill-to-esycc-requires : tie.Need-fill-to-esycc-requires
+fill-to-esycc-requires c κs = room (c .before .before .before .before .before) _ (c .before .enum-told3 .given .1)
+
+enum-told-4 : tie.Need-enum-told-4
+enum-told-4 c = search needs
+
+fill-from-esycc-requires : tie.Need-fill-from-esycc-requires
+fill-from-esycc-requires c κs = room (c .before .before .before .before .before) _ (c .before .enum-told4 .given .1)
+
+enum-told-5 : tie.Need-enum-told-5
+enum-told-5 c = search needs
+
+fill-to-sycc-requires : tie.Need-fill-to-sycc-requires
+fill-to-sycc-requires c κs = room (c .before .before .before .before .before) _ (c .before .enum-told5 .given .1)
+
+enum-told-6 : tie.Need-enum-told-6
+enum-told-6 c = search needs
+
+fill-from-sycc-requires : tie.Need-fill-from-sycc-requires
+fill-from-sycc-requires c κs = room (c .before .before .before .before .before) _ (c .before .enum-told6 .given .1)
+
 same-length : tie.Need-same-length
 same-length c = search needs
 
@@ -58,6 +82,30 @@ same-length-2 c = search needs
 returns-2 : tie.Need-returns-2
 returns-2 c = c .before .before .fill-from-luma-chroma .ensures ∙ made-by (c .before .before .before .before .before .before .before .before) _ (c .before .before .before .before .enum-told2 .given .1)
 
+same-length-3 : tie.Need-same-length-3
+same-length-3 c = search needs
+
+returns-3 : tie.Need-returns-3
+returns-3 c = c .before .before .fill-to-esycc .ensures ∙ made-by (c .before .before .before .before .before .before .before .before) _ (c .before .before .before .before .enum-told3 .given .1)
+
+same-length-4 : tie.Need-same-length-4
+same-length-4 c = search needs
+
+returns-4 : tie.Need-returns-4
+returns-4 c = c .before .before .fill-from-esycc .ensures ∙ made-by (c .before .before .before .before .before .before .before .before) _ (c .before .before .before .before .enum-told4 .given .1)
+
+same-length-5 : tie.Need-same-length-5
+same-length-5 c = search needs
+
+returns-5 : tie.Need-returns-5
+returns-5 c = c .before .before .fill-to-sycc .ensures ∙ made-by (c .before .before .before .before .before .before .before .before) _ (c .before .before .before .before .enum-told5 .given .1)
+
+same-length-6 : tie.Need-same-length-6
+same-length-6 c = search needs
+
+returns-6 : tie.Need-returns-6
+returns-6 c = c .before .before .fill-from-sycc .ensures ∙ made-by (c .before .before .before .before .before .before .before .before) _ (c .before .before .before .before .enum-told6 .given .1)
+
 pub fill-by-rule-spec : {M : Type 1} → statement M
 fill-by-rule-spec =
     tie.close
@@ -66,7 +114,23 @@ fill-by-rule-spec =
     fill-to-luma-chroma-requires
     enum-told-2
     fill-from-luma-chroma-requires
+    enum-told-3
+    fill-to-esycc-requires
+    enum-told-4
+    fill-from-esycc-requires
+    enum-told-5
+    fill-to-sycc-requires
+    enum-told-6
+    fill-from-sycc-requires
     same-length
     returns
     same-length-2
-    returns-2)
+    returns-2
+    same-length-3
+    returns-3
+    same-length-4
+    returns-4
+    same-length-5
+    returns-5
+    same-length-6
+    returns-6)

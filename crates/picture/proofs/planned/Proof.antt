@@ -81,6 +81,30 @@ enum-known-conversion-5 c = search needs
 pixel-plan-requires-2 : tie.Need-pixel-plan-requires-2
 pixel-plan-requires-2 c κs = search needs
 
+enum-known-conversion-6 : tie.Need-enum-known-conversion-6
+enum-known-conversion-6 c = search needs
+
+pixel-plan-requires-3 : tie.Need-pixel-plan-requires-3
+pixel-plan-requires-3 c κs = search needs
+
+enum-known-conversion-7 : tie.Need-enum-known-conversion-7
+enum-known-conversion-7 c = search needs
+
+pixel-plan-requires-4 : tie.Need-pixel-plan-requires-4
+pixel-plan-requires-4 c κs = search needs
+
+enum-known-conversion-8 : tie.Need-enum-known-conversion-8
+enum-known-conversion-8 c = search needs
+
+pixel-plan-requires-5 : tie.Need-pixel-plan-requires-5
+pixel-plan-requires-5 c κs = search needs
+
+enum-known-conversion-9 : tie.Need-enum-known-conversion-9
+enum-known-conversion-9 c = search needs
+
+pixel-plan-requires-6 : tie.Need-pixel-plan-requires-6
+pixel-plan-requires-6 c κs = search needs
+
 returns : tie.Need-returns
 returns c =
     let conversion = c .before .before .before .before .before .before .conversion .given in
@@ -130,6 +154,18 @@ returns-8 c = subst (λ conversion. Planned conversion (c .pixel-plan .result)) 
 returns-9 : tie.Need-returns-9
 returns-9 c = subst (λ conversion. Planned conversion (c .pixel-plan2 .result)) (sym (c .before .before .conversion5 .given .1)) (c .pixel-plan2 .ensures)
 
+returns-10 : tie.Need-returns-10
+returns-10 c = subst (λ conversion. Planned conversion (c .pixel-plan3 .result)) (sym (c .before .before .conversion6 .given .1)) (c .pixel-plan3 .ensures)
+
+returns-11 : tie.Need-returns-11
+returns-11 c = subst (λ conversion. Planned conversion (c .pixel-plan4 .result)) (sym (c .before .before .conversion7 .given .1)) (c .pixel-plan4 .ensures)
+
+returns-12 : tie.Need-returns-12
+returns-12 c = subst (λ conversion. Planned conversion (c .pixel-plan5 .result)) (sym (c .before .before .conversion8 .given .1)) (c .pixel-plan5 .ensures)
+
+returns-13 : tie.Need-returns-13
+returns-13 c = subst (λ conversion. Planned conversion (c .pixel-plan6 .result)) (sym (c .before .before .conversion9 .given .1)) (c .pixel-plan6 .ensures)
+
 pub planned-spec : {M : Type 1} → statement M
 planned-spec =
     tie.close
@@ -157,6 +193,14 @@ planned-spec =
     pixel-plan-requires
     enum-known-conversion-5
     pixel-plan-requires-2
+    enum-known-conversion-6
+    pixel-plan-requires-3
+    enum-known-conversion-7
+    pixel-plan-requires-4
+    enum-known-conversion-8
+    pixel-plan-requires-5
+    enum-known-conversion-9
+    pixel-plan-requires-6
     returns
     returns-2
     returns-3
@@ -165,4 +209,8 @@ planned-spec =
     returns-6
     returns-7
     returns-8
-    returns-9)
+    returns-9
+    returns-10
+    returns-11
+    returns-12
+    returns-13)

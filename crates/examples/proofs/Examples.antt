@@ -5,12 +5,14 @@ use mathlib.Core.Path.{refl}
 use Rattle.numbers.specs.Rounding.{nearest, nearestDown, clippedTo}
 use Rattle.esrgb.specs.Codes.{fromSrgb, toSrgb, changeDepth}
 use Rattle.lumachroma.specs.LumaChroma.{luma, chroma, blueChroma, redChroma, redBack, greenBack, blueBack}
+use Rattle.esycc.specs.Esycc as esycc
+use Rattle.esycc.specs.Sycc.{halfMore, chromaByte}
 use Rattle.transfer.proofs.Examples.{light-examples, code-examples}
 use Rattle.tint.proofs.Examples as tints
 use Rattle.examples.specs.Examples.{AllHold, done, _&_, examples}
 
 pub all-hold : AllHold examples
-unfolding nearest nearestDown fromSrgb toSrgb changeDepth luma chroma blueChroma redChroma clippedTo redBack greenBack blueBack
+unfolding nearest nearestDown fromSrgb toSrgb changeDepth luma chroma blueChroma redChroma clippedTo redBack greenBack blueBack esycc.code esycc.luma esycc.chroma esycc.adding esycc.taking halfMore chromaByte
 all-hold =
     refl & refl & refl & refl & refl
     & light-examples .0 & light-examples .1 & light-examples .2 & light-examples .3 & light-examples .4
@@ -19,4 +21,7 @@ all-hold =
     & refl & refl & refl & refl
     & tints.code-example & tints.nonlinear-examples .0 & tints.nonlinear-examples .1 & tints.nonlinear-examples .2
     & tints.light-examples & tints.refused-examples .0 & tints.refused-examples .1
+    & refl & refl & refl & refl & refl & refl & refl & refl & refl & refl & refl & refl & refl & refl & refl
+    & refl & refl & refl & refl & refl & refl & refl & refl & refl & refl & refl & refl & refl & refl & refl
+    & refl & refl & refl & refl & refl & refl & refl & refl & refl & refl & refl & refl & refl & refl
     & done

@@ -1,5 +1,5 @@
--- The examples that are proved (rules 10.1 to 10.5, the depths of 10.6, and 10.8), one after another: those to 10.5 are document 01's
--- starred swatches.
+-- The examples that are proved (rules 10.1 to 10.5, the depths of 10.6, 10.8 and 10.9), one after another: those to 10.5 are document
+-- 01's starred swatches.
 -- Assumes nothing.
 use Prim.Native.Nat.{ℕ, suc, _+_, _-_}
 use mathlib.Core.Path.{_≡_}
@@ -13,7 +13,7 @@ use Rattle.samples.specs.Samples.{pixel}
 use Rattle.esrgb.specs.Depths.{offset}
 use Rattle.esrgb.specs.Codes.{fromSrgb, toSrgb}
 use Rattle.picture.specs.declared.Conversion.{Conversion}
-use Rattle.picture.specs.declared.Conversion.the-variants.{FromSrgb, ToSrgb, ChangeDepth, ToLumaChroma}
+use Rattle.picture.specs.declared.Conversion.the-variants.{FromSrgb, ToSrgb, ChangeDepth, ToLumaChroma, ToEsycc, FromEsycc, ToSycc, FromSycc}
 use Rattle.lumachroma.specs.LumaChroma.{toLumaChroma, toRgb}
 use Rattle.picture.specs.Convert.{each, pixelOf}
 use Rattle.transfer.specs.Light.{lightOfCode}
@@ -92,4 +92,53 @@ examples =
     ∷ tint (Light (channels (double 313 100000) (double 3131 1000000) (double 0 1))) (gives (pixel 1618 1619 1536))
     ∷ tint (Nonlinear (channels (double 1 1) (inf true) nan)) (refusesAt 17 1)
     ∷ tint (Light (channels nan (double 1 1) (inf false))) (refusesAt 17 0)
+    -- Rule 10.9: white, black, red, green and blue of sRGB in e-sYCC and in sYCC. Red has luma 0.299, blue chroma −0.299 / 3.544, which is
+    -- −0.084368, and red chroma 0.701 / 2.804, which is 1/4: times 1,023, and chroma plus 512, these are 305.877, 425.692 and 767.75.
+    ∷ convert (ToEsycc 10) (pixel 894 894 894) (pixel 1023 512 512)
+    ∷ convert (ToEsycc 10) (pixel 384 384 384) (pixel 0 512 512)
+    ∷ convert (ToEsycc 10) (pixel 894 384 384) (pixel 306 426 768)
+    ∷ convert (ToEsycc 10) (pixel 384 894 384) (pixel 601 343 298)
+    ∷ convert (ToEsycc 10) (pixel 384 384 894) (pixel 117 768 470)
+    ∷ convert (ToEsycc 12) (pixel 3576 3576 3576) (pixel 4095 2048 2048)
+    ∷ convert (ToEsycc 12) (pixel 1536 1536 1536) (pixel 0 2048 2048)
+    ∷ convert (ToEsycc 12) (pixel 3576 1536 1536) (pixel 1224 1703 3072)
+    ∷ convert (ToEsycc 12) (pixel 1536 3576 1536) (pixel 2404 1370 1191)
+    ∷ convert (ToEsycc 12) (pixel 1536 1536 3576) (pixel 467 3072 1882)
+    ∷ convert (ToEsycc 16) (pixel 57216 57216 57216) (pixel 65535 32768 32768)
+    ∷ convert (ToEsycc 16) (pixel 24576 24576 24576) (pixel 0 32768 32768)
+    ∷ convert (ToEsycc 16) (pixel 57216 24576 24576) (pixel 19595 27239 49152)
+    ∷ convert (ToEsycc 16) (pixel 24576 57216 24576) (pixel 38469 21913 19049)
+    ∷ convert (ToEsycc 16) (pixel 24576 24576 57216) (pixel 7471 49152 30104)
+    ∷ convert (ToSycc 10) (pixel 894 894 894) (pixel 255 128 128)
+    ∷ convert (ToSycc 10) (pixel 384 384 384) (pixel 0 128 128)
+    ∷ convert (ToSycc 10) (pixel 894 384 384) (pixel 76 85 255)
+    ∷ convert (ToSycc 10) (pixel 384 894 384) (pixel 150 44 21)
+    ∷ convert (ToSycc 10) (pixel 384 384 894) (pixel 29 255 107)
+    ∷ convert (ToSycc 12) (pixel 3576 3576 3576) (pixel 255 128 128)
+    ∷ convert (ToSycc 12) (pixel 1536 1536 1536) (pixel 0 128 128)
+    ∷ convert (ToSycc 12) (pixel 3576 1536 1536) (pixel 76 85 255)
+    ∷ convert (ToSycc 12) (pixel 1536 3576 1536) (pixel 150 44 21)
+    ∷ convert (ToSycc 12) (pixel 1536 1536 3576) (pixel 29 255 107)
+    ∷ convert (ToSycc 16) (pixel 57216 57216 57216) (pixel 255 128 128)
+    ∷ convert (ToSycc 16) (pixel 24576 24576 24576) (pixel 0 128 128)
+    ∷ convert (ToSycc 16) (pixel 57216 24576 24576) (pixel 76 85 255)
+    ∷ convert (ToSycc 16) (pixel 24576 57216 24576) (pixel 150 44 21)
+    ∷ convert (ToSycc 16) (pixel 24576 24576 57216) (pixel 29 255 107)
+    ∷ convert (FromEsycc 10) (pixel 1023 512 512) (pixel 894 894 894)
+    ∷ convert (FromEsycc 10) (pixel 0 512 512) (pixel 384 384 384)
+    ∷ convert (FromEsycc 12) (pixel 4095 2048 2048) (pixel 3576 3576 3576)
+    ∷ convert (FromEsycc 12) (pixel 0 2048 2048) (pixel 1536 1536 1536)
+    ∷ convert (FromEsycc 16) (pixel 65535 32768 32768) (pixel 57216 57216 57216)
+    ∷ convert (FromEsycc 16) (pixel 0 32768 32768) (pixel 24576 24576 24576)
+    -- Levels 639, 639 and −384 over 510: blue less luma is −906.378, and times 1,023 / (510 × 3.544) plus 512 that is −1.004.
+    ∷ convert (ToEsycc 10) (pixel 1023 1023 0) (pixel 1023 0 595)
+    ∷ convert (FromEsycc 10) (pixel 306 426 768) (pixel 894 384 385)
+    -- The grey of level 256: 255 × 256 / 510 is 128. Back, chroma is 1 / 1,020, so that red is 384 + 510 (128 + 0.701) / 255, 641.402.
+    ∷ convert (ToSycc 10) (pixel 640 640 640) (pixel 128 128 128)
+    ∷ convert (FromSycc 10) (pixel 128 128 128) (pixel 641 639 642)
+    -- Both chromas are below −1/2, and clipped: 255 × −1/2 + 128 is 0.5.
+    ∷ convert (ToSycc 10) (pixel 0 1023 0) (pixel 108 1 1)
+    ∷ convert (FromSycc 10) (pixel 255 128 128) (pixel 895 893 896)
+    ∷ convert (FromSycc 12) (pixel 255 128 128) (pixel 3582 3572 3583)
+    ∷ convert (FromSycc 16) (pixel 255 128 128) (pixel 57306 57148 57329)
     ∷ []

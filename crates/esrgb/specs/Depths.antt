@@ -1,6 +1,6 @@
 -- The depths of e-sRGB codes, and the numbers of a depth (rules 1.1 to 1.5; PIMA 7667, 4.4.3 and A1).
 -- Assumes nothing.
-use Prim.Native.Nat.{ℕ, _+_, _-_, _^_}
+use Prim.Native.Nat.{ℕ, _+_, _-_, _*_, _^_}
 use mathlib.Core.Path.{_≡_}
 use mathlib.Core.Bool.{Bool, false, _||_}
 use lib.Dec.{eqb}
@@ -38,3 +38,7 @@ offset n = 2 ^ (n - 2) + 2 ^ (n - 3)
 -- Rule 1.3: how many codes lie from one 8-bit value to the next.
 abbrev pub step : ℕ → ℕ
 step n = 2 ^ (n - 9)
+
+-- Rule 1.5: the level of white.
+abbrev pub scale : ℕ → ℕ
+scale n = 255 * step n

@@ -5,8 +5,8 @@ use Prim.Native.Nat.{ℕ, _+_, _-_, _*_, _/_, _^_, _≤_, _<_, min}
 use native.Mathlib.Omega.{arith}
 use native.Mathlib.Nat.{mul-add, mul-assoc, mul-comm, mul-left-comm, mul-le-mul, mul-le-mul-left, mul-le-mul-right, le-of-mul-le-mul-left}
 use Rattle.numbers.proofs.Shares.{share-of, Counted, counted, both}
-use Rattle.esrgb.specs.Depths.{greatest, offset}
-use Rattle.esycc.specs.Esycc.{scale, code, Ycc, adding, taking}
+use Rattle.esrgb.specs.Depths.{greatest, offset, scale}
+use Rattle.esycc.specs.Esycc.{code, Ycc, adding, taking}
 use Rattle.esycc.specs.HowCounted.{Ratio, backUnit, backLift, backAllowance, backStart, BackTerms, shareBy, rowsBy, withChroma, lessChroma, mostLuma, mostChroma, mostShare, mostTaken, mostLumaShare, FewRows}
 use Rattle.esycc.proofs.Coded.{coded}
 

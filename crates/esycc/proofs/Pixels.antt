@@ -8,10 +8,10 @@ use Rattle.samples.specs.declared.Pixel.{Pixel}
 use Rattle.samples.specs.Samples.{pixel}
 use Rattle.esrgb.specs.declared.Depth.{Depth}
 use Rattle.esrgb.specs.declared.Depth.the-variants.{Ten, Twelve, Sixteen}
-use Rattle.esrgb.specs.Depths.{bits, greatest, middle, offset, step}
+use Rattle.esrgb.specs.Depths.{bits, greatest, middle, offset, step, scale}
 use Rattle.esrgb.proofs.Scale.{Scale, scale as numbers}
 use Rattle.numbers.proofs.Shares.{Share}
-use Rattle.esycc.specs.Esycc.{scale, code, weighted, luma, chroma, toEsycc, Ycc, fromYcc}
+use Rattle.esycc.specs.Esycc.{code, weighted, luma, chroma, toEsycc, Ycc, fromYcc}
 use Rattle.esycc.specs.Sycc.{chromaByte, toSycc}
 use Rattle.esycc.specs.HowCounted.{Ratio, codesAt, unit, lift, mostSum, mostDifference, mostLumaFactor, mostChromaFactor, top, bottom, Terms, factorsBy, Few, lumaSum, chromaSum, sumsBy, backLift, backTop, backHalf, BackTerms, rowsBy, backSumsBy, mostLuma, mostChroma}
 use Rattle.esycc.proofs.Coded.{share-times}

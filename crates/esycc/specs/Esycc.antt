@@ -5,11 +5,7 @@ use Prim.Native.Nat.{ℕ, _+_, _*_}
 use Rattle.numbers.specs.Rounding.{clippedTo}
 use Rattle.samples.specs.declared.Pixel.{Pixel}
 use Rattle.samples.specs.Samples.{pixel}
-use Rattle.esrgb.specs.Depths.{greatest, middle, offset, step}
-
--- Rule 1.3 (B1, B10): the codes from level 0 to level 1.
-abbrev pub scale : ℕ → ℕ
-scale n = 255 * step n
+use Rattle.esrgb.specs.Depths.{greatest, middle, offset, scale}
 
 -- The code of a number v = (up − down) / den: v × weight + origin, to the nearest, ties upward, rounded once and then clipped to 0 to most.
 -- B5 and B6 (C5): the weight is the greatest code, and origin the code of v = 0. B10 (B11): the weight is the scale, and origin the offset.

@@ -4,7 +4,8 @@ use Prim.Native.Nat.{ℕ, _+_, _-_, _*_, min}
 use Rattle.numbers.specs.Rounding.{nearest}
 use Rattle.samples.specs.declared.Pixel.{Pixel}
 use Rattle.samples.specs.Samples.{pixel}
-use Rattle.esycc.specs.Esycc.{scale, weighted, luma, fromYcc}
+use Rattle.esrgb.specs.Depths.{scale}
+use Rattle.esycc.specs.Esycc.{weighted, luma, fromYcc}
 
 -- Rule 12.6 (C3 and the clip after C4): a channel less luma, clipped to −1/2 to 1/2. Here a half more, so from 0 to 1, in parts of which
 -- half is a half.

@@ -9,9 +9,9 @@ use borrow.Author.Tests.{lt-ltb, le-ltb}
 use lib.Dec.{ltb}
 use lib.IntN.{ℤ, pos, negsuc, negℤ, natAbs}
 use lib.Signed.{ltZ}
-use Rattle.esrgb.specs.Depths.{step}
+use Rattle.esrgb.specs.Depths.{step, scale}
 use Rattle.esrgb.proofs.Scale.{Scale}
-use Rattle.transfer.specs.Light.{scale, lightOfLevel, lightOfCode}
+use Rattle.transfer.specs.Light.{lightOfLevel, lightOfCode}
 use Rattle.transfer.specs.Level.{levelOfLight, codeOfLight}
 use Rattle.transfer.specs.HowTabled.{levels}
 use Rattle.linear.proofs.Sign.{not-negative}

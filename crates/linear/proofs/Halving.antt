@@ -8,9 +8,8 @@ use native.Mathlib.Omega.{arith}
 use borrow.Author.Tests.{leb-true, leb-false}
 use lib.Dec.{leb}
 use lib.ListN.{length, getD}
-use Rattle.esrgb.specs.Depths.{step}
+use Rattle.esrgb.specs.Depths.{step, scale}
 use Rattle.esrgb.proofs.Scale.{Scale}
-use Rattle.transfer.specs.Light.{scale}
 use Rattle.transfer.specs.Level.{levelOfLight}
 use Rattle.transfer.specs.HowTabled.{levels, fewLevels, startOf, ThresholdTable, StartTable}
 

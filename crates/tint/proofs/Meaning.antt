@@ -14,8 +14,7 @@ use borrow.Author.Tests.{leb-true, leb-false}
 use Rattle.numbers.specs.Rounding.{nearest, nearestDown}
 use Rattle.doubles.specs.Doubles.{nearestWhole}
 use Rattle.doubles.proofs.Numbers.{IsNumber, product-number, sum-number}
-use Rattle.esrgb.specs.Depths.{greatest, offset}
-use Rattle.transfer.specs.Light.{scale}
+use Rattle.esrgb.specs.Depths.{greatest, offset, scale}
 use Rattle.transfer.specs.Level.{reachesLevel, levelOfLight, codeOfLight}
 use Rattle.transfer.specs.HowTabled.{levels}
 use Rattle.transfer.proofs.Level.{isFrom, meets, level-from, level-rises}

@@ -12,8 +12,7 @@ use mir.Val.{Fits, SFits, toZ, ofZ}
 use mir.ValLaws.{toZ-ofZ}
 use Rattle.doubles.specs.Doubles.{nearestWhole}
 use Rattle.doubles.proofs.Whole.{whole-size, whole-natural}
-use Rattle.esrgb.specs.Depths.{offset}
-use Rattle.transfer.specs.Light.{scale}
+use Rattle.esrgb.specs.Depths.{offset, scale}
 
 pub is-scale : ofBits binary64 0x409f_e000_0000_0000 ≡ ofInt binary64 (pos (scale 12))
 unfolding ofBits ofInt

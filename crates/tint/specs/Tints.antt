@@ -9,9 +9,8 @@ use Rattle.doubles.specs.Doubles.{nearestWhole}
 use Rattle.refusal.specs.Refusals.{numberOf}
 use Rattle.samples.specs.declared.Pixel.{Pixel}
 use Rattle.samples.specs.Samples.{pixel}
-use Rattle.esrgb.specs.Depths.{greatest, offset}
+use Rattle.esrgb.specs.Depths.{greatest, offset, scale}
 use Rattle.esrgb.specs.Codes.{fromSrgb}
-use Rattle.transfer.specs.Light.{scale}
 use Rattle.linear.specs.Operations.{pixelOfLight}
 use Rattle.tint.specs.declared.Channels.{Channels}
 use Rattle.tint.specs.declared.Tint.{Tint}

@@ -6,8 +6,8 @@ use mathlib.Core.Bool.{true}
 use native.Mathlib.Omega.{arith}
 use lib.IntN.{pos, negsuc, negℤ}
 use Rattle.numbers.specs.Rounding.{nearest}
-use Rattle.esrgb.specs.Depths.{offset}
-use Rattle.transfer.specs.Light.{scale, reachesLight, lightOfCode}
+use Rattle.esrgb.specs.Depths.{offset, scale}
+use Rattle.transfer.specs.Light.{reachesLight, lightOfCode}
 use Rattle.transfer.specs.Level.{reachesLevel, levelOfLight, codeOfLight}
 use Rattle.transfer.proofs.Light.{isLight, light-is}
 use Rattle.transfer.proofs.Level.{isFrom, isBelow, level-from, level-below}

@@ -9,8 +9,7 @@ use native.Mathlib.Nat.{le-trans, lt-of-le-of-lt}
 use borrow.Author.Tests.{leb-true, leb-false, ltb-true}
 use lib.Dec.{leb, ltb}
 use lib.ListN.{length, getD}
-use Rattle.esrgb.specs.Depths.{step}
-use Rattle.transfer.specs.Light.{scale}
+use Rattle.esrgb.specs.Depths.{step, scale}
 use Rattle.transfer.specs.Level.{levelOfLight}
 use Rattle.transfer.specs.HowTabled.{levels, lastGroup, groupOf, fewLevels, startOf, StartTable}
 use Rattle.transfer.proofs.Every.{every, passes-at}

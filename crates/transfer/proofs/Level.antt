@@ -9,9 +9,9 @@ use native.Mathlib.Nat.{le-trans, lt-of-le-of-lt, mul-le-mul-left, mul-le-mul-ri
 use borrow.Author.Tests.{leb-true, leb-false, le-leb, ltb-true, eqb-true, not-true}
 use lib.Dec.{leb, ltb, eqb}
 use lib.ListN.{length, getD}
+use Rattle.esrgb.specs.Depths.{scale}
 use Rattle.numbers.specs.Rounding.{nearest}
 use Rattle.transfer.specs.Search.{lastPassing}
-use Rattle.transfer.specs.Light.{scale}
 use Rattle.transfer.specs.Level.{lowLight, reachesLevel, beyondLevels, levelOfLight}
 use Rattle.transfer.specs.HowTabled.{levels, Threshold, ThresholdTable}
 use Rattle.transfer.proofs.Search.{Falls, last-from, last-below, last-rises}

@@ -11,7 +11,8 @@ use lib.Dec.{leb, eqb}
 use lib.ListN.{length, getD}
 use Rattle.numbers.specs.Rounding.{nearest}
 use Rattle.transfer.specs.Search.{lastPassing}
-use Rattle.transfer.specs.Light.{scale, lowLevel, reachesLight, greatestLight, lightOfLevel}
+use Rattle.esrgb.specs.Depths.{scale}
+use Rattle.transfer.specs.Light.{lowLevel, reachesLight, greatestLight, lightOfLevel}
 use Rattle.transfer.specs.HowTabled.{levels, LightTable}
 use Rattle.transfer.proofs.Search.{Falls, last-is, last-most}
 use Rattle.transfer.proofs.Every.{every, passes-at}

@@ -13,9 +13,9 @@ use lib.IntN.{ℤ, pos, negℤ}
 use Rattle.numbers.specs.Rounding.{nearest}
 use Rattle.esrgb.specs.declared.Depth.{Depth}
 use Rattle.esrgb.specs.declared.Depth.the-variants.{Ten, Twelve, Sixteen}
-use Rattle.esrgb.specs.Depths.{bits, greatest, offset, step}
+use Rattle.esrgb.specs.Depths.{bits, greatest, offset, step, scale}
 use Rattle.esrgb.proofs.Scale.{Scale}
-use Rattle.transfer.specs.Light.{offersLight, scale, lowLevel, reachesLight, lightOfLevel, lightOfCode}
+use Rattle.transfer.specs.Light.{offersLight, lowLevel, reachesLight, lightOfLevel, lightOfCode}
 
 pub pow-mul : (x y n : ℕ) → (x * y) ^ n ≡ x ^ n * y ^ n
 pow-mul x y zero = rw (pow-zero (x * y), pow-zero x, pow-zero y)

@@ -4,8 +4,8 @@ use Prim.Native.Nat.{ℕ, _+_, _-_, _*_, _/_, _^_, _≤_, _<_, min}
 use mathlib.Core.Path.{_≡_}
 use mathlib.Core.List.{List}
 use lib.ListN.{length, getD}
-use Rattle.esrgb.specs.Depths.{offset, step}
-use Rattle.transfer.specs.Light.{scale, lightOfLevel}
+use Rattle.esrgb.specs.Depths.{offset, step, scale}
+use Rattle.transfer.specs.Light.{lightOfLevel}
 use Rattle.transfer.specs.Level.{levelOfLight}
 
 -- How many levels from 0 up the codes of a depth have.

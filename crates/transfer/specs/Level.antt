@@ -5,9 +5,8 @@ use mathlib.Core.Bool.{Bool, cond}
 use lib.Dec.{leb}
 use lib.IntN.{ℤ, pos, negsuc}
 use Rattle.numbers.specs.Rounding.{nearest}
-use Rattle.esrgb.specs.Depths.{greatest, offset}
+use Rattle.esrgb.specs.Depths.{greatest, offset, scale}
 use Rattle.transfer.specs.Search.{lastPassing}
-use Rattle.transfer.specs.Light.{scale}
 
 -- Below, S is a scale, q the size of a light, and y is q / 1,000,000.
 

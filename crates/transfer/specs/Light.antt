@@ -5,16 +5,12 @@ use mathlib.Core.Bool.{Bool, cond, _||_}
 use lib.Dec.{eqb, leb, ltb}
 use lib.IntN.{ℤ, pos, negℤ}
 use Rattle.numbers.specs.Rounding.{nearest}
-use Rattle.esrgb.specs.Depths.{offset, step}
+use Rattle.esrgb.specs.Depths.{offset, scale}
 use Rattle.transfer.specs.Search.{lastPassing}
 
 -- Rule 6.1: the depths that have light.
 abbrev pub offersLight : ℕ → Bool
 offersLight n = eqb n 10 || eqb n 12
-
--- Rule 1.5: the level of white.
-abbrev pub scale : ℕ → ℕ
-scale n = 255 * step n
 
 -- Below, S is a scale, v the size of a level, and u is v / S (equation 5). Comparisons are multiplied out to whole numbers.
 

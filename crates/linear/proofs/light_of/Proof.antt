@@ -3,7 +3,8 @@
 use mathlib.Core.Path.{_∙_, ap}
 use native.Mathlib.Omega.{arith}
 use mir.ValLaws.{toZ-ofZ}
-use Rattle.transfer.specs.Light.{scale, lightOfLevel}
+use Rattle.esrgb.specs.Depths.{scale}
+use Rattle.transfer.specs.Light.{lightOfLevel}
 use Rattle.transfer.proofs.Light.{light-small}
 use Rattle.linear.proofs.Codes.{light-at-distance}
 use borrow.Author.Needs.{needs}

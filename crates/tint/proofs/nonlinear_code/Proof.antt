@@ -4,8 +4,7 @@ use mathlib.Core.Path.{_≡_}
 use lib.Dec.{lit<}
 use borrow.Author.Needs.{needs}
 use Rattle.doubles.specs.Doubles.{nearestWhole}
-use Rattle.esrgb.specs.Depths.{greatest, offset}
-use Rattle.transfer.specs.Light.{scale}
+use Rattle.esrgb.specs.Depths.{greatest, offset, scale}
 use Rattle.tint.specs.Tints.{times, plus, nonlinearCode}
 use Rattle.tint.proofs.Rounded.{is-scale, is-offset, natural-cast, natural-is}
 use Rattle.tint.proofs.nonlinear_code.Statement.{statement}

@@ -2,7 +2,7 @@
 -- Assumes nothing.
 use Prim.Native.Nat.{ℕ, _+_, _-_, _*_, _/_, min}
 
--- num / den to the nearest whole number, ties upward (rules 1.7, 1.8, 2.2, 2.5, 11.4 and 11.5; of a size, 6.4).
+-- num / den to the nearest whole number, ties upward (rules 1.7, 1.8, 2.2, 2.5, 11.4, 11.5, 12.3, 12.5 and 12.6; of a size, 6.4).
 unfoldable pub nearest : ℕ → ℕ → ℕ
 nearest num den = (2 * num + den) / (2 * den)
 
@@ -11,7 +11,7 @@ nearest num den = (2 * num + den) / (2 * den)
 unfoldable pub nearestDown : ℕ → ℕ → ℕ
 nearestDown num den = (2 * num + den - 1) / (2 * den)
 
--- (up − down) / den to the nearest whole number, ties upward, clipped to 0 to most (rule 2.5). A difference of ℕ stops at 0, which clips
--- what is below.
+-- (up − down) / den to the nearest whole number, ties upward, clipped to 0 to most (rules 2.5, 12.3 and 12.5). A difference of ℕ stops
+-- at 0, which clips what is below.
 unfoldable pub clippedTo : ℕ → ℕ → ℕ → ℕ → ℕ
 clippedTo most up down den = min most (nearest (up - down) den)

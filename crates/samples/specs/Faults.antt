@@ -31,7 +31,7 @@ samplesSay coding done k (x ∷ xs) =
 
 -- Rule 4.2, the order of refusals of every operation on pictures: is the depth offered; is the source, of `len` bytes or numbers, whole
 -- samples, and is it whole pixels; has the destination the `room` for them. Samples are wide or not, in the source and in the result;
--- light is counted in numbers, one to a sample (rule 6.7). So of sRGB and of light, any length is whole samples.
+-- light is counted in numbers, one to a sample (rule 6.7). So of samples of one byte and of light, any length is whole samples.
 abbrev pub callFault : Bool → Bool → Bool → ℕ → ℕ → Verdict
 callFault offered wideIn wideOut len room =
     cond (not offered) (faulty 9)

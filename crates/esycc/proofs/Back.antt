@@ -7,7 +7,8 @@ use native.Mathlib.Nat.{mul-add, mul-assoc, mul-comm, mul-left-comm, mul-le-mul,
 use Rattle.numbers.proofs.Shares.{share-of, Counted, counted, both}
 use Rattle.esrgb.specs.Depths.{greatest, offset, scale}
 use Rattle.esycc.specs.Esycc.{code, Ycc, adding, taking}
-use Rattle.esycc.specs.HowCounted.{Ratio, backUnit, backLift, backAllowance, backStart, BackTerms, shareBy, rowsBy, withChroma, lessChroma, mostLuma, mostChroma, mostShare, mostTaken, mostLumaShare, FewRows}
+use Rattle.esycc.specs.HowCounted.{Ratio, mostMiddle, backUnit, backLift, backAllowance, backStart, BackTerms, shareBy, rowsBy, withChroma, lessChroma, mostLuma, mostChroma, mostShare, mostTaken, mostLumaShare, FewRows}
+use Rattle.esycc.proofs.Room.{product-fits}
 use Rattle.esycc.proofs.Coded.{coded}
 
 -- A part of p in units, and two parts together.
@@ -33,11 +34,21 @@ share-over p q unit weight most some ratio h =
 pub share-most : {p q grey : ℕ} (weight most : ℕ) → BackTerms p q grey → weight * backUnit ≤ 312 * most → shareBy weight p q ≤ most
 share-most {p} {q} weight most t h = share-over p q backUnit weight most (t .some) (t .ratio) h
 
+-- The greatest of the denominators, the most that the weights of both chromas are, and the most that they take away.
+abbrev pub mostBackBottom : ℕ
+mostBackBottom = 341250
+
+abbrev bothWeights : ℕ
+bothWeights = 35443
+
+abbrev mostDown : ℕ
+mostDown = 5000000000
+
 -- What luma and the chromas can be, and the ratio of the scale to what stands for 1.
 pub record Within (n p h : ℕ) (v : Ycc) : Type 0 where
   pub ratio : Ratio (scale n) (10000 * v .one) p (2 * h)
   pub terms : BackTerms p (2 * h) (v .grey)
-  pub few : 2 * h ≤ 341250
+  pub few : 2 * h ≤ mostBackBottom
   pub offsets : offset n ≤ backLift
   pub y-most : v .y ≤ mostLuma
   pub cb-most : v .cb ≤ mostChroma
@@ -59,16 +70,16 @@ module _ {n p h : ℕ} {v : Ycc} (w : Within n p h v) (a b : ℕ) where
       → Counted (2 * h) backUnit (p * (10000 * v .y + (a * x + b * y))) (shareOf 10000 * v .y + (shareOf a * x + shareOf b * y)) (v .y + (x + y))
   three x y = parts p (10000 * v .y) (a * x + b * y) (part (2 * h) p backUnit 10000 (v .y) some) (two x y)
 
-  mixed : a + b ≤ 35443 → (x y : ℕ) → x ≤ mostChroma → y ≤ mostChroma → a * x + b * y ≤ 5000000000
+  mixed : a + b ≤ bothWeights → (x y : ℕ) → x ≤ mostChroma → y ≤ mostChroma → a * x + b * y ≤ mostDown
   mixed few x y hx hy =
       let first : a * x ≤ a * mostChroma = mul-le-mul-left a hx in
       let second : b * y ≤ b * mostChroma = mul-le-mul-left b hy in
       omega arith
 
   -- What is taken away does not reach below 0.
-  below : (down : ℕ) → down ≤ 5000000000 → p * down ≤ 2 * h * backLift
+  below : (down : ℕ) → down ≤ mostDown → p * down ≤ 2 * h * backLift
   below down hd =
-      let most : p * down ≤ p * 5000000000 = mul-le-mul-left p hd in
+      let most : p * down ≤ p * mostDown = mul-le-mul-left p hd in
       omega (arith, w .terms .ratio)
 
   within-start : {exact units short : ℕ} → Counted (2 * h) backUnit exact units short → exact ≤ 2 * h * backLift → units ≤ backLift * backUnit
@@ -86,34 +97,33 @@ module _ {n p h : ℕ} {v : Ycc} (w : Within n p h v) (a b : ℕ) where
   sum-coded :
       (up down : ℕ) {more less s e : ℕ} (total : ℕ)
       → Counted (2 * h) backUnit (p * up) more s → Counted (2 * h) backUnit (p * down) less e
-      → s ≤ backAllowance → e ≤ 2 * mostChroma → down ≤ 5000000000 → total ≡ backStart + more - less
+      → s ≤ backAllowance → e ≤ 2 * mostChroma → down ≤ mostDown → total ≡ backStart + more - less
       → min (greatest n) (total / backUnit - (backLift - offset n)) ≡ code (greatest n) (offset n) (scale n) up down (10000 * v .one)
   sum-coded up down {more} {less} {s} {e} total m l hs he hd is-total =
       let lifts : backLift - offset n + offset n ≡ backLift = omega (arith, w .offsets) in
-      let broad : 2 * h ≤ 341250 = w .few in
-      let long : backAllowance + e ≤ 786428 = omega arith in
-      let short : 2 * h * (backAllowance + e) ≤ 341250 * 786428 = mul-le-mul broad long in
+      let short : 2 * h * (backAllowance + e) ≤ mostBackBottom * (backAllowance + 2 * mostChroma) =
+      product-fits (2 * h) (backAllowance + e) mostBackBottom (backAllowance + 2 * mostChroma) (w .few) (omega arith) in
       let fits : p * down ≤ 2 * h * (backLift - offset n + offset n) = rw lifts (below down hd) in
       ap (λ (x : ℕ). min (greatest n) (x / backUnit - (backLift - offset n))) is-total
       ∙ ap (λ (x : ℕ). min (greatest n) ((x * backUnit + backUnit / 2 + backAllowance + more - less) / backUnit - (backLift - offset n))) (sym lifts)
       ∙ coded (w .ratio) (2 ^ 37) (backLift - offset n) (offset n) backAllowance (greatest n) up down m l (omega (arith, some)) hs (omega arith) fits
 
   pub adding-coded :
-      a + b ≤ 35443
+      a + b ≤ bothWeights
       → min (greatest n) (withChroma (backStart - greys) (shareOf 10000 * v .y) chromas - (backLift - offset n)) ≡ adding n v a b
   unfolding withChroma adding
   adding-coded few =
-      let down : a * v .grey + b * v .grey ≤ 5000000000 = mixed few (v .grey) (v .grey) (omega (arith, w .terms .middle)) (omega (arith, w .terms .middle)) in
+      let down : a * v .grey + b * v .grey ≤ mostDown = mixed few (v .grey) (v .grey) (omega (arith, w .terms .middle)) (omega (arith, w .terms .middle)) in
       let under : greys ≤ backLift * backUnit = within-start (two (v .grey) (v .grey)) (below (a * v .grey + b * v .grey) down) in
       sum-coded (10000 * v .y + (a * v .cb + b * v .cr)) (a * v .grey + b * v .grey) (backStart - greys + shareOf 10000 * v .y + chromas)
       (three (v .cb) (v .cr)) (two (v .grey) (v .grey)) (omega (arith, w .y-most, w .cb-most, w .cr-most)) (omega (arith, w .terms .middle)) down (omega arith)
 
   pub taking-coded :
-      a + b ≤ 35443
+      a + b ≤ bothWeights
       → min (greatest n) (lessChroma (backStart + greys) (shareOf 10000 * v .y) chromas - (backLift - offset n)) ≡ taking n v a b
   unfolding lessChroma taking
   taking-coded few =
-      let down : a * v .cb + b * v .cr ≤ 5000000000 = mixed few (v .cb) (v .cr) (w .cb-most) (w .cr-most) in
+      let down : a * v .cb + b * v .cr ≤ mostDown = mixed few (v .cb) (v .cr) (w .cb-most) (w .cr-most) in
       sum-coded (10000 * v .y + (a * v .grey + b * v .grey)) (a * v .cb + b * v .cr) (backStart + greys + shareOf 10000 * v .y - chromas)
       (three (v .grey) (v .grey)) (two (v .cb) (v .cr)) (omega (arith, w .y-most, w .terms .middle)) (omega (arith, w .cb-most, w .cr-most)) down (omega arith)
 
@@ -121,8 +131,8 @@ module _ {n p h : ℕ} {v : Ycc} (w : Within n p h v) (a b : ℕ) where
 pub rows-few : {p q grey : ℕ} → BackTerms p q grey → FewRows (rowsBy p q grey)
 rows-few {p} {q} {grey} t =
     let share : (weight : ℕ) → weight ≤ 14282 → shareBy weight p q ≤ mostTaken = λ weight h. share-most weight mostTaken t (omega arith) in
-    let green-cb : shareBy 6882 p q * grey ≤ mostTaken * 32768 = mul-le-mul (share 6882 (omega arith)) (t .middle) in
-    let green-cr : shareBy 14282 p q * grey ≤ mostTaken * 32768 = mul-le-mul (share 14282 (omega arith)) (t .middle) in
+    let green-cb : shareBy 6882 p q * grey ≤ mostTaken * mostMiddle = mul-le-mul (share 6882 (omega arith)) (t .middle) in
+    let green-cr : shareBy 14282 p q * grey ≤ mostTaken * mostMiddle = mul-le-mul (share 14282 (omega arith)) (t .middle) in
     record {
       luma = share-most 10000 mostLumaShare t (omega arith);
       red = record { cb = share-most 0 mostShare t (omega arith); cr = share-most 28040 mostShare t (omega arith) };

@@ -1,3 +1,4 @@
+pub mod Room
 pub mod Coded
 pub mod There
 pub mod Back

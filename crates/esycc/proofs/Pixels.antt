@@ -1,6 +1,6 @@
 -- Whole pixels: the sums of each depth's numbers are the definitions' codes.
 -- Assumes nothing.
-use mathlib.Core.Path.{_≡_, refl, sym, ap, _∙_}
+use mathlib.Core.Path.{_≡_, refl, ap, _∙_}
 use Prim.Native.Nat.{ℕ, _+_, _-_, _*_, _/_, _≤_, min, max}
 use native.Mathlib.Omega.{arith}
 use native.Mathlib.Nat.{mul-assoc, mul-le-mul}
@@ -13,10 +13,10 @@ use Rattle.esrgb.proofs.Scale.{Scale, scale as numbers}
 use Rattle.numbers.proofs.Shares.{Share}
 use Rattle.esycc.specs.Esycc.{code, weighted, luma, chroma, toEsycc, Ycc, fromYcc}
 use Rattle.esycc.specs.Sycc.{chromaByte, toSycc}
-use Rattle.esycc.specs.HowCounted.{Ratio, codesAt, unit, lift, mostSum, mostDifference, mostLumaFactor, mostChromaFactor, top, bottom, Terms, factorsBy, Few, lumaSum, chromaSum, sumsBy, backLift, backTop, backHalf, BackTerms, rowsBy, backSumsBy, mostLuma, mostChroma}
+use Rattle.esycc.specs.HowCounted.{Ratio, codesAt, unit, lift, mostSum, mostDifference, mostLumaFactor, mostChromaFactor, top, bottom, Terms, factorsBy, Few, lumaSum, chromaSum, sumsBy, backLift, backTop, backHalf, BackTerms, rowsBy, backSumsBy}
 use Rattle.esycc.proofs.Coded.{share-times}
 use Rattle.esycc.proofs.There.{reaches, lumaReach, chromaReach, luma-coded, chroma-coded}
-use Rattle.esycc.proofs.Back.{Within, adding-coded, taking-coded}
+use Rattle.esycc.proofs.Back.{mostBackBottom, Within, adding-coded, taking-coded}
 use Rattle.esycc.proofs.Sycc.{clipped-first}
 
 -- ---- the numbers of the depths
@@ -172,7 +172,7 @@ esycc-within d px h = record {
   cr-most = omega (arith, h);
 }
   where
-    halves : (d : Depth) → 2 * backHalf d ≤ 341250
+    halves : (d : Depth) → 2 * backHalf d ≤ mostBackBottom
     halves Ten = omega arith
     halves Twelve = omega arith
     halves Sixteen = omega arith

@@ -1,7 +1,7 @@
 -- A chroma of sYCC, which is clipped before it is encoded, is the code that is not, but for 0, which is never reached.
 -- Assumes nothing.
 use mathlib.Core.Path.{_≡_, ap}
-use Prim.Native.Nat.{ℕ, _+_, _-_, _*_, _/_, _≤_, _<_, min, max}
+use Prim.Native.Nat.{ℕ, _+_, _-_, _*_, _≤_, _<_, min, max}
 use native.Mathlib.Omega.{arith}
 use native.Mathlib.Decide.{decLe}
 use native.Mathlib.Nat.{div-lt-iff-lt-mul, le-div-iff-mul-le}

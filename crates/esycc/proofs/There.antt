@@ -3,10 +3,11 @@
 use mathlib.Core.Path.{_≡_, sym, ap, _∙_}
 use Prim.Native.Nat.{ℕ, _+_, _-_, _*_, _/_, _^_, _≤_, _<_, min}
 use native.Mathlib.Omega.{arith}
-use native.Mathlib.Nat.{mul-add, mul-sub, mul-assoc, mul-comm, mul-left-comm, mul-le-mul, mul-le-mul-left, mul-le-mul-right, le-trans, le-of-mul-le-mul-left}
+use native.Mathlib.Nat.{mul-add, mul-sub, mul-assoc, mul-comm, mul-le-mul, mul-le-mul-left, mul-le-mul-right, le-of-mul-le-mul-left}
 use Rattle.numbers.proofs.Shares.{Share, counted}
 use Rattle.esycc.specs.Esycc.{code}
-use Rattle.esycc.specs.HowCounted.{Ratio, unit, lift, mostSum, mostDifference, Terms, start, lumaSum, chromaSum}
+use Rattle.esycc.specs.HowCounted.{Ratio, unit, lift, mostSum, mostDifference, mostLow, mostDivisor, mostBottom, Terms, start, lumaSum, chromaSum}
+use Rattle.esycc.proofs.Room.{product-fits}
 use Rattle.esycc.proofs.Coded.{ratio-times, code-less, coded}
 
 -- As far as x reaches by the ratio, so far it reaches by the factor.
@@ -27,14 +28,15 @@ chromaReach = 42000
 -- ---- luma
 module _ {most b p q factor : ℕ} (t : Terms p q) (r : Ratio most b p q) (s : Share (2 * (500 * q)) p unit factor) where
   pub luma-coded :
-      (low sum : ℕ) → low ≤ 24576000 → sum ≤ mostSum
+      (low sum : ℕ) → low ≤ mostLow → sum ≤ mostSum
       → min most (lumaSum factor low sum - lift) ≡ code most 0 most sum low (1000 * b)
   unfolding lumaSum
   luma-coded low sum hl hs =
-      let lows : p * low ≤ p * 24576000 = mul-le-mul-left p hl in
+      let lows : p * low ≤ p * mostLow = mul-le-mul-left p hl in
       let under : factor * low ≤ lift * unit = reaches low lift s (omega (arith, t .some)) (omega (arith, t .ratio)) in
       let order : start 0 mostSum - factor * low + factor * sum ≡ start 0 mostSum + factor * sum - factor * low = omega arith in
-      let few : 2 * (500 * q) * (mostSum + low) ≤ 170000 * 90111000 = let wide : 2 * (500 * q) ≤ 170000 = omega (arith, t .few) in let long : mostSum + low ≤ 90111000 = omega arith in mul-le-mul wide long in
+      let few : 2 * (500 * q) * (mostSum + low) ≤ 1000 * mostBottom * (mostSum + mostLow) =
+      product-fits (2 * (500 * q)) (mostSum + low) (1000 * mostBottom) (mostSum + mostLow) (omega (arith, t .few)) (omega arith) in
       ap (λ (x : ℕ). min most (x / unit - lift)) order
       ∙ coded (ratio-times 500 r) (2 ^ 45) lift 0 mostSum most sum low (counted s sum) (counted s low) (omega (arith, t .some)) hs (omega arith) (omega (arith, t .ratio))
 
@@ -47,7 +49,7 @@ module _ {most b p q factor : ℕ} (half : ℕ) (t : Terms p q) (r : Ratio most 
   unfolding chromaSum
   chroma-coded origin channel sum up down both some few far hc hs hu hd =
       let den : 1 * 1 ≤ half * q = mul-le-mul some (t .some) in
-      let wide : half * q ≤ 1772 * 170 = mul-le-mul few (t .few) in
+      let wide : half * q ≤ 1772 * mostBottom = mul-le-mul few (t .few) in
       let x : ℕ = up + mostDifference - down in
       let above : 1000 * channel + mostDifference - sum ≡ x = omega arith in
       let times : factor * x ≡ factor * up + factor * mostDifference - factor * down =
@@ -58,8 +60,8 @@ module _ {most b p q factor : ℕ} (half : ℕ) (t : Terms p q) (r : Ratio most 
       let more : lift ≤ lift + origin = omega arith in
       let origins : lift * unit ≤ (lift + origin) * unit = mul-le-mul-right unit more in
       let order : first - factor * mostDifference + factor * x ≡ first + factor * up - factor * down = omega arith in
-      let short : 2 * (half * q) * (mostDifference + down) ≤ 602480 * 116128020 =
-      let long : mostDifference + down ≤ 116128020 = omega arith in let broad : 2 * (half * q) ≤ 602480 = omega arith in mul-le-mul broad long in
+      let short : 2 * (half * q) * (mostDifference + down) ≤ mostDivisor * mostBottom * (2 * mostDifference) =
+      product-fits (2 * (half * q)) (mostDifference + down) (mostDivisor * mostBottom) (2 * mostDifference) (omega arith) (omega arith) in
       let p-down : p * down ≤ p * mostDifference = mul-le-mul-left p hd in
       let higher : chromaReach ≤ lift + origin = omega arith in
       let lifts : 2 * (half * q) * chromaReach ≤ 2 * (half * q) * (lift + origin) = mul-le-mul-left (2 * (half * q)) higher in

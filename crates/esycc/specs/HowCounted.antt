@@ -43,6 +43,16 @@ mostSum = 65535000
 abbrev pub mostDifference : ℕ
 mostDifference = 58064010
 
+-- The most that 1,000 offsets are, the greatest middle code, and the greatest divisor of a chroma.
+abbrev pub mostLow : ℕ
+mostLow = 24576000
+
+abbrev pub mostMiddle : ℕ
+mostMiddle = 32768
+
+abbrev pub mostDivisor : ℕ
+mostDivisor = 3544
+
 -- The greatest code is to the scale as these two numbers.
 abbrev pub top : Depth → ℕ
 top Ten = 341
@@ -55,9 +65,12 @@ bottom Twelve = 136
 bottom Sixteen = 128
 
 -- Two numbers that can stand for the greatest code and the scale: at 16 bits they are 257 and 128, and the ratio is the greatest.
+abbrev pub mostBottom : ℕ
+mostBottom = 170
+
 pub record Terms (p q : ℕ) : Type 0 where
   pub some : 1 ≤ q
-  pub few : q ≤ 170
+  pub few : q ≤ mostBottom
   pub ratio : 128 * p ≤ 257 * q
 
 -- The factors of luma and of chromas that have these divisors, where the greatest code is to the scale as p to q.
@@ -127,13 +140,19 @@ backHalf Twelve = 170625
 backHalf Sixteen = 160625
 
 -- What p and q, and the grey of chroma, can be: of sYCC at 16 bits, where the ratio is the greatest, p is 128 and q 40,000.
+abbrev pub mostTop : ℕ
+mostTop = 128
+
 pub record BackTerms (p q grey : ℕ) : Type 0 where
   pub some : 1 ≤ p
-  pub few : p ≤ 128
+  pub few : p ≤ mostTop
   pub ratio : 312 * p ≤ q
-  pub middle : grey ≤ 32768
+  pub middle : grey ≤ mostMiddle
 
--- So many ten-thousandths of a row of B9, in units.
+-- So many ten-thousandths of a row of B9, in units, and the most that B9 has.
+abbrev pub mostWeight : ℕ
+mostWeight = 35440
+
 abbrev pub shareBy : ℕ → ℕ → ℕ → ℕ
 shareBy weight p q = weight * p * backUnit / q
 

@@ -6,11 +6,11 @@ use esrgb::greatest_of;
 use esrgb::step_of;
 use samples::Pixel;
 ghost use mathlib.Core.Path.{_≡_};
-ghost use Prim.Native.Nat.{_+_, _-_, _*_, _/_, _^_, _≤_, _<_, min, max};
+ghost use Prim.Native.Nat.{_+_, _-_, _*_, _/_, _≤_, _<_, min, max};
 ghost use Rattle.esrgb.specs.Depths.{bits, greatest, middle, offset, step};
 ghost use Rattle.esycc.specs.Esycc.{weighted, toEsycc, fromEsycc};
 ghost use Rattle.esycc.specs.Sycc.{toSycc, fromSycc};
-ghost use Rattle.esycc.specs.HowCounted.{Excess, codesAt, unit, lift, mostSum, mostDifference, mostLumaFactor, mostChromaFactor, top, bottom, Terms, factorsBy, lumaSum, chromaSum, Few, sumsBy, backUnit, backLift, backStart, backTop, backHalf, BackTerms, shareBy, addingRow, takingRow, rowsBy, withChroma, lessChroma, backSumsBy, mostLuma, mostChroma, mostShare, mostTaken, mostLumaShare, FewRows};
+ghost use Rattle.esycc.specs.HowCounted.{Excess, codesAt, lift, mostSum, mostDifference, mostLow, mostMiddle, mostDivisor, mostLumaFactor, mostChromaFactor, top, bottom, Terms, factorsBy, lumaSum, chromaSum, Few, sumsBy, backLift, backStart, backTop, backHalf, mostTop, mostWeight, BackTerms, shareBy, addingRow, takingRow, rowsBy, withChroma, lessChroma, backSumsBy, mostLuma, mostChroma, mostShare, mostTaken, mostLumaShare, FewRows};
 
 // ---- sums and codes
 
@@ -88,7 +88,7 @@ struct Factors {
 
 // The factors where the greatest code is to the scale as p to q, and the chromas have these divisors.
 fn factors_by(p: u64, q: u64, blue: u64, red: u64) -> Factors
-    requires { ⌜ Terms p q × ((1 ≤ blue) × (blue ≤ 3544)) × ((1 ≤ red) × (red ≤ 3544)) ⌝ }
+    requires { ⌜ Terms p q × ((1 ≤ blue) × (blue ≤ mostDivisor)) × ((1 ≤ red) × (red ≤ mostDivisor)) ⌝ }
     ensures { λ r. ⌜ r ≡ factorsBy p q blue red ⌝ }
 {
     Factors {
@@ -129,7 +129,7 @@ fn weighted_sum(p: Pixel) -> u32
 
 // Luma: the weighted sum, counted from 1000 offsets.
 fn luma_sum(factor: u64, low: u32, sum: u32) -> u32
-    requires { ⌜ (factor ≤ mostLumaFactor) × (low ≤ 24576000) × (sum ≤ mostSum) ⌝ }
+    requires { ⌜ (factor ≤ mostLumaFactor) × (low ≤ mostLow) × (sum ≤ mostSum) ⌝ }
     ensures { λ r. ⌜ r ≡ lumaSum factor low sum ⌝ }
 {
     let start = (LIFT as u64) * UNIT + UNIT / 2 + MOST_SUM - factor * (low as u64);
@@ -139,7 +139,7 @@ fn luma_sum(factor: u64, low: u32, sum: u32) -> u32
 // A chroma: how far 1000 times a channel is above the weighted sum, counted from the least that this can be,
 // so that one product does.
 fn chroma_sum(factor: u64, origin: u16, channel: u16, sum: u32) -> u32
-    requires { ⌜ (factor ≤ mostChromaFactor) × (origin ≤ 32768) × (sum ≤ 1000 * channel + mostDifference) ⌝ }
+    requires { ⌜ (factor ≤ mostChromaFactor) × (origin ≤ mostMiddle) × (sum ≤ 1000 * channel + mostDifference) ⌝ }
     ensures { λ r. ⌜ r ≡ chromaSum factor origin channel sum ⌝ }
 {
     let least = MOST_DIFFERENCE as u64;
@@ -150,7 +150,7 @@ fn chroma_sum(factor: u64, origin: u16, channel: u16, sum: u32) -> u32
 
 // Luma and the chromas of a pixel of codes, where origin is the code of no chroma.
 fn encode(f: Factors, origin: u16, step: u16, p: Pixel) -> Sums
-    requires { ⌜ Few f × (origin ≤ 32768) × (step ≤ 128) ⌝ }
+    requires { ⌜ Few f × (origin ≤ mostMiddle) × (step ≤ 128) ⌝ }
     ensures { λ r. ⌜ r ≡ sumsBy f origin (192000 * step) p ⌝ }
 {
     let sum = weighted_sum(p);
@@ -218,7 +218,7 @@ struct Rows {
 
 // So many ten-thousandths of p / q, in units.
 fn share(weight: u64, p: u64, q: u64) -> u64
-    requires { ⌜ (weight ≤ 35440) × (p ≤ 128) × (1 ≤ q) ⌝ }
+    requires { ⌜ (weight ≤ mostWeight) × (p ≤ mostTop) × (1 ≤ q) ⌝ }
     ensures { λ r. ⌜ r ≡ shareBy weight p q ⌝ }
 {
     weight * p * BACK_UNIT / q
@@ -226,7 +226,7 @@ fn share(weight: u64, p: u64, q: u64) -> u64
 
 // The row of a channel to which the chromas are added, and from which they are taken away.
 fn adding_row(cb: u64, cr: u64, grey: u64) -> Row
-    requires { ⌜ (cb ≤ mostShare) × (cr ≤ mostShare) × (grey ≤ 32768) ⌝ }
+    requires { ⌜ (cb ≤ mostShare) × (cr ≤ mostShare) × (grey ≤ mostMiddle) ⌝ }
     ensures { λ r. ⌜ r ≡ addingRow cb cr grey ⌝ }
 {
     Row {
@@ -237,7 +237,7 @@ fn adding_row(cb: u64, cr: u64, grey: u64) -> Row
 }
 
 fn taking_row(cb: u64, cr: u64, grey: u64) -> Row
-    requires { ⌜ (cb ≤ mostShare) × (cr ≤ mostShare) × (grey ≤ 32768) ⌝ }
+    requires { ⌜ (cb ≤ mostShare) × (cr ≤ mostShare) × (grey ≤ mostMiddle) ⌝ }
     ensures { λ r. ⌜ r ≡ takingRow cb cr grey ⌝ }
 {
     Row {

@@ -6,12 +6,12 @@ use Prim.Native.Nat.{ℕ, _+_, _-_, _*_, _/_, min}
 unfoldable pub nearest : ℕ → ℕ → ℕ
 nearest num den = (2 * num + den) / (2 * den)
 
+-- (up − down) / den, rounded like that, and then clipped: it is at least 0 and at most `most` (rules 2.5, 12.3 and 12.5). A difference of
+-- ℕ stops at 0, which clips what is below.
+unfoldable pub clippedTo : ℕ → ℕ → ℕ → ℕ → ℕ
+clippedTo most up down den = min most (nearest (up - down) den)
+
 -- num / den to the nearest whole number, ties downward: of a size, that is towards zero (rule 2.3), and upward if the number is negative
 -- (11.5).
 unfoldable pub nearestDown : ℕ → ℕ → ℕ
 nearestDown num den = (2 * num + den - 1) / (2 * den)
-
--- (up − down) / den to the nearest whole number, ties upward, clipped to 0 to most (rules 2.5, 12.3 and 12.5). A difference of ℕ stops
--- at 0, which clips what is below.
-unfoldable pub clippedTo : ℕ → ℕ → ℕ → ℕ → ℕ
-clippedTo most up down den = min most (nearest (up - down) den)

@@ -1,21 +1,16 @@
 -- `esycc::add_chroma` meets its contract: the products fit.
 -- Assumes nothing.
-use Prim.Native.Nat.{ℕ, _+_, _*_, _≤_}
+use Prim.Native.Nat.{_*_, _≤_}
 use mathlib.Core.Path.{refl}
 use native.Mathlib.Omega.{arith}
-use native.Mathlib.Nat.{mul-le-mul}
 use Rattle.esycc.specs.HowCounted.{mostShare, mostChroma, withChroma}
+use Rattle.esycc.proofs.Room.{product-fits}
 use borrow.Author.Needs.{needs}
 use Rattle.esycc.proofs.add_chroma.Statement.{statement}
 use Rattle.esycc.proofs.add_chroma.Tie as tie
 
 products : (c : tie.Start) → (c .args .cb-share * c .args .cb ≤ mostShare * mostChroma) × (c .args .cr-share * c .args .cr ≤ mostShare * mostChroma)
-products c =
-    let cb-share : c .args .cb-share ≤ mostShare = omega (arith, c .pre) in
-    let cb : c .args .cb ≤ mostChroma = omega (arith, c .pre) in
-    let cr-share : c .args .cr-share ≤ mostShare = omega (arith, c .pre) in
-    let cr : c .args .cr ≤ mostChroma = omega (arith, c .pre) in
-    (mul-le-mul cb-share cb, mul-le-mul cr-share cr)
+products c = (product-fits (c .args .cb-share) (c .args .cb) mostShare mostChroma (omega (arith, c .pre)) (omega (arith, c .pre)), product-fits (c .args .cr-share) (c .args .cr) mostShare mostChroma (omega (arith, c .pre)) (omega (arith, c .pre)))
 
 mul-shares : tie.Need-mul-shares
 mul-shares c = omega (arith, products c)

@@ -1,19 +1,15 @@
 -- `esycc::adding_row` meets its contract: the products fit.
 -- Assumes nothing.
-use Prim.Native.Nat.{ℕ, _+_, _*_, _≤_}
+use Prim.Native.Nat.{_*_, _≤_}
 use native.Mathlib.Omega.{arith}
-use native.Mathlib.Nat.{mul-le-mul}
-use Rattle.esycc.specs.HowCounted.{mostShare}
+use Rattle.esycc.specs.HowCounted.{mostMiddle, mostShare}
+use Rattle.esycc.proofs.Room.{product-fits}
 use borrow.Author.Needs.{needs}
 use Rattle.esycc.proofs.adding_row.Statement.{statement}
 use Rattle.esycc.proofs.adding_row.Tie as tie
 
-products : (c : tie.Start) → (c .args .cb * c .args .grey ≤ mostShare * 32768) × (c .args .cr * c .args .grey ≤ mostShare * 32768)
-products c =
-    let cb : c .args .cb ≤ mostShare = omega (arith, c .pre) in
-    let cr : c .args .cr ≤ mostShare = omega (arith, c .pre) in
-    let grey : c .args .grey ≤ 32768 = omega (arith, c .pre) in
-    (mul-le-mul cb grey, mul-le-mul cr grey)
+products : (c : tie.Start) → (c .args .cb * c .args .grey ≤ mostShare * mostMiddle) × (c .args .cr * c .args .grey ≤ mostShare * mostMiddle)
+products c = (product-fits (c .args .cb) (c .args .grey) mostShare mostMiddle (omega (arith, c .pre)) (omega (arith, c .pre)), product-fits (c .args .cr) (c .args .grey) mostShare mostMiddle (omega (arith, c .pre)) (omega (arith, c .pre)))
 
 mul-t4 : tie.Need-mul-t4
 mul-t4 c = omega (arith, products c)

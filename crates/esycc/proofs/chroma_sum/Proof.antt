@@ -1,19 +1,16 @@
 -- `esycc::chroma_sum` meets its contract: the product fits.
 -- Assumes nothing.
-use Prim.Native.Nat.{ℕ, _+_, _-_, _*_, _≤_}
+use Prim.Native.Nat.{_+_, _-_, _*_, _≤_}
 use mathlib.Core.Path.{refl}
 use native.Mathlib.Omega.{arith}
-use native.Mathlib.Nat.{mul-le-mul}
-use Rattle.esycc.specs.HowCounted.{mostDifference, mostChromaFactor, chromaSum}
+use Rattle.esycc.specs.HowCounted.{mostSum, mostDifference, mostChromaFactor, chromaSum}
+use Rattle.esycc.proofs.Room.{product-fits}
 use borrow.Author.Needs.{needs}
 use Rattle.esycc.proofs.chroma_sum.Statement.{statement}
 use Rattle.esycc.proofs.chroma_sum.Tie as tie
 
-product : (c : tie.Start) → c .args .factor * (1000 * c .args .channel + mostDifference - c .args .sum) ≤ mostChromaFactor * 123599010
-product c =
-    let factor : c .args .factor ≤ mostChromaFactor = omega (arith, c .pre) in
-    let above : 1000 * c .args .channel + mostDifference - c .args .sum ≤ 123599010 = omega arith in
-    mul-le-mul factor above
+product : (c : tie.Start) → c .args .factor * (1000 * c .args .channel + mostDifference - c .args .sum) ≤ mostChromaFactor * (mostSum + mostDifference)
+product c = product-fits (c .args .factor) (1000 * c .args .channel + mostDifference - c .args .sum) mostChromaFactor (mostSum + mostDifference) (omega (arith, c .pre)) (omega arith)
 
 cast-least : tie.Need-cast-least
 cast-least c = search needs

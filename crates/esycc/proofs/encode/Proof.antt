@@ -1,6 +1,6 @@
 -- `esycc::encode` meets its contract: each sum is that of the pixel's weighted sum.
 -- Assumes nothing.
-use Prim.Native.Nat.{ℕ, _*_}
+use Prim.Native.Nat.{_*_}
 use mathlib.Core.Path.{ap, _∙_}
 use Rattle.esycc.specs.HowCounted.{lumaSum, chromaSum}
 use borrow.Author.Needs.{needs}

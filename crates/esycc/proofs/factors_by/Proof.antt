@@ -3,25 +3,23 @@
 use Prim.Native.Nat.{ℕ, _*_, _≤_}
 use native.Mathlib.Omega.{arith}
 use native.Mathlib.Nat.{mul-le-mul}
+use Rattle.esycc.specs.HowCounted.{mostDivisor, mostBottom}
 use borrow.Author.Needs.{needs}
 use Rattle.esycc.proofs.factors_by.Statement.{statement}
 use Rattle.esycc.proofs.factors_by.Tie as tie
 
 record Fits (x : ℕ) : Type 0 where
   least : 1 * 1 ≤ x
-  most : x ≤ 3544 * 170
+  most : x ≤ mostDivisor * mostBottom
+
+fits : (x q : ℕ) → 1 ≤ x → x ≤ mostDivisor → 1 ≤ q → q ≤ mostBottom → Fits (x * q)
+fits x q some few q-some q-few = record { least = mul-le-mul some q-some; most = mul-le-mul few q-few }
 
 denominators : (c : tie.Start) → Fits (c .args .blue * c .args .q) × Fits (c .args .red * c .args .q)
-denominators c =
-    let blue : 1 ≤ c .args .blue = omega (arith, c .pre) in
-    let blue-most : c .args .blue ≤ 3544 = omega (arith, c .pre) in
-    let red : 1 ≤ c .args .red = omega (arith, c .pre) in
-    let red-most : c .args .red ≤ 3544 = omega (arith, c .pre) in
-    let q : 1 ≤ c .args .q = omega (arith, c .pre) in
-    let q-most : c .args .q ≤ 170 = omega (arith, c .pre) in (
-      record { least = mul-le-mul blue q; most = mul-le-mul blue-most q-most },
-      record { least = mul-le-mul red q; most = mul-le-mul red-most q-most },
-    )
+denominators c = (
+  fits (c .args .blue) (c .args .q) (omega (arith, c .pre)) (omega (arith, c .pre)) (omega (arith, c .pre)) (omega (arith, c .pre)),
+  fits (c .args .red) (c .args .q) (omega (arith, c .pre)) (omega (arith, c .pre)) (omega (arith, c .pre)) (omega (arith, c .pre)),
+)
 
 mul-t5 : tie.Need-mul-t5
 mul-t5 c = search needs

@@ -1,20 +1,16 @@
 -- `esycc::luma_sum` meets its contract: the products fit.
 -- Assumes nothing.
-use Prim.Native.Nat.{ℕ, _+_, _*_, _≤_}
+use Prim.Native.Nat.{_*_, _≤_}
 use mathlib.Core.Path.{refl}
 use native.Mathlib.Omega.{arith}
-use native.Mathlib.Nat.{mul-le-mul}
-use Rattle.esycc.specs.HowCounted.{mostSum, mostLumaFactor, lumaSum}
+use Rattle.esycc.specs.HowCounted.{mostSum, mostLow, mostLumaFactor, lumaSum}
+use Rattle.esycc.proofs.Room.{product-fits}
 use borrow.Author.Needs.{needs}
 use Rattle.esycc.proofs.luma_sum.Statement.{statement}
 use Rattle.esycc.proofs.luma_sum.Tie as tie
 
-products : (c : tie.Start) → (c .args .factor * c .args .low ≤ mostLumaFactor * 24576000) × (c .args .factor * c .args .sum ≤ mostLumaFactor * mostSum)
-products c =
-    let factor : c .args .factor ≤ mostLumaFactor = omega (arith, c .pre) in
-    let low : c .args .low ≤ 24576000 = omega (arith, c .pre) in
-    let sum : c .args .sum ≤ mostSum = omega (arith, c .pre) in
-    (mul-le-mul factor low, mul-le-mul factor sum)
+products : (c : tie.Start) → (c .args .factor * c .args .low ≤ mostLumaFactor * mostLow) × (c .args .factor * c .args .sum ≤ mostLumaFactor * mostSum)
+products c = (product-fits (c .args .factor) (c .args .low) mostLumaFactor mostLow (omega (arith, c .pre)) (omega (arith, c .pre)), product-fits (c .args .factor) (c .args .sum) mostLumaFactor mostSum (omega (arith, c .pre)) (omega (arith, c .pre)))
 
 cast-start : tie.Need-cast-start
 cast-start c = search needs

@@ -1,17 +1,15 @@
 -- `esycc::share` meets its contract: the products fit.
 -- Assumes nothing.
-use Prim.Native.Nat.{ℕ, _+_, _*_, _≤_}
+use Prim.Native.Nat.{_*_, _≤_}
 use native.Mathlib.Omega.{arith}
-use native.Mathlib.Nat.{mul-le-mul}
+use Rattle.esycc.specs.HowCounted.{mostTop, mostWeight}
+use Rattle.esycc.proofs.Room.{product-fits}
 use borrow.Author.Needs.{needs}
 use Rattle.esycc.proofs.share.Statement.{statement}
 use Rattle.esycc.proofs.share.Tie as tie
 
-product : (c : tie.Start) → c .args .weight * c .args .p ≤ 35440 * 128
-product c =
-    let h : c .args .weight ≤ 35440 = omega (arith, c .pre) in
-    let k : c .args .p ≤ 128 = omega (arith, c .pre) in
-    mul-le-mul h k
+product : (c : tie.Start) → c .args .weight * c .args .p ≤ mostWeight * mostTop
+product c = product-fits (c .args .weight) (c .args .p) mostWeight mostTop (omega (arith, c .pre)) (omega (arith, c .pre))
 
 mul-result : tie.Need-mul-result
 mul-result c = omega (arith, product c)

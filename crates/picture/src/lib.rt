@@ -183,7 +183,8 @@ fn fill_from_luma_chroma(depth: Depth, src: &[u8], dst: &mut [u8])
     fill_pixels(PixelRule::FromLumaChroma, depth, true, true, src, dst);
 }
 
-// A loop for each depth too, in which the numbers of the depth are constants. As above, each is a function.
+// Of e-sYCC and sYCC each depth has a loop too, in which its factors are constants. As above, each is a
+// function. Luma and chroma would be too long for the compiler to make three loops of.
 fn fill_ten(rule: PixelRule, wide_in: bool, wide_out: bool, src: &[u8], dst: &mut [u8])
     requires { ⌜ length (now dst) ≡ place «wide_out» (3 * length (read «wide_in» (now src))) ⌝ }
     ensures { λ _. ⌜ now (dst .exit) ≡ write «wide_out» (map (pixelApplied rule 10) (read «wide_in» (now (src .entry)))) ⌝ }

@@ -69,6 +69,7 @@ fn codes(most: u16, low: u32, sums: Sums) -> Pixel
 // A code is (start + factor * x) / UNIT, where the factor is rounded down, and the start holds the half that
 // rounds and what makes up for the factor's rounding. So no pixel waits for a division.
 
+// A code has 2^46 units: fewer would not decide every rounding, and with more a sum would not fit.
 const UNIT: u64 = 70368744177664;
 
 // What a sum stands too high until it is clipped.
@@ -193,10 +194,13 @@ pub fn to_sycc(depth: Depth, p: Pixel) -> Pixel
 // ---- to e-sRGB
 // A channel is a start, luma and the shares of the chromas in units, as above.
 
+// Samples have fewer bits than the sums above, so that 2^38 units to a code decide every rounding.
 const BACK_UNIT: u64 = 274877906944;
 
+// Samples that are no bytes make sYCC go far below 0.
 const BACK_LIFT: u32 = 16777216;
 
+// What the shares can lack in all, since each is rounded down.
 const BACK_ALLOWANCE: u64 = 524288;
 
 const BACK_START: u64 = (BACK_LIFT as u64) * BACK_UNIT + BACK_UNIT / 2 + BACK_ALLOWANCE;

@@ -11,8 +11,11 @@ use Rattle.esrgb.specs.declared.Depth.the-variants.{Ten, Twelve, Sixteen}
 use Rattle.esrgb.specs.Depths.{bits, greatest, middle, offset, step, scale}
 use Rattle.esrgb.proofs.Scale.{Scale, scale as numbers}
 use Rattle.numbers.proofs.Shares.{Share}
-use Rattle.esycc.specs.Esycc.{code, weighted, luma, chroma, toEsycc, Ycc, fromYcc}
-use Rattle.esycc.specs.Sycc.{chromaByte, toSycc}
+use Rattle.esycc.specs.Esycc.{code, weighted, luma, chroma, toEsycc, Ycc, fromYcc, ofEsycc}
+use Rattle.esycc.specs.Sycc.{chromaByte, toSycc, ofSycc}
+use Rattle.esycc.specs.declared.Sums.{Sums}
+use Rattle.esycc.specs.declared.Factors.{Factors}
+use Rattle.esycc.specs.declared.Rows.{Rows}
 use Rattle.esycc.specs.HowCounted.{Ratio, codesAt, unit, lift, mostSum, mostDifference, mostLumaFactor, mostChromaFactor, top, bottom, Terms, factorsBy, Few, lumaSum, chromaSum, sumsBy, backLift, backTop, backHalf, BackTerms, rowsBy, backSumsBy}
 use Rattle.esycc.proofs.Coded.{share-times}
 use Rattle.esycc.proofs.There.{reaches, lumaReach, chromaReach, luma-coded, chroma-coded}
@@ -149,7 +152,18 @@ module _ (d : Depth) (px : Pixel) (h : Samples px) where
       let c = byte-is 701 (1000 * px .first) (weighted px) _ (omega arith) (red-is s t r px h 701 128 (omega arith) (omega arith) (omega (arith, s .some))) in
       λ i. pixel (y i) (b i) (c i)
 
+-- The sums that the code has worked out, by equations.
+pub sums-are :
+    (px : Pixel) (origin low origin′ low′ : ℕ) {f f′ : Factors} {s : Sums} → s ≡ sumsBy f origin low px → f ≡ f′ → origin ≡ origin′ → low ≡ low′
+    → s ≡ sumsBy f′ origin′ low′ px
+sums-are px origin low origin′ low′ e f-is o l = e ∙ (λ i. sumsBy (f-is i) (o i) (l i) px)
+
 -- ---- to e-sRGB
+pub back-sums-are :
+    (v : Ycc) (y cb cr : ℕ) {r r′ : Rows} {s : Sums} → s ≡ backSumsBy r y cb cr → r ≡ r′ → y ≡ v .y → cb ≡ v .cb → cr ≡ v .cr
+    → s ≡ backSumsBy r′ (v .y) (v .cb) (v .cr)
+back-sums-are v y cb cr e r-is hy hb hr = e ∙ (λ i. backSumsBy (r-is i) (hy i) (hb i) (hr i))
+
 pub is-channels :
     {n p half : ℕ} {v : Ycc} → Within n p half v
     → codesAt (greatest n) (backLift - offset n) (backSumsBy (rowsBy p (2 * half) (v .grey)) (v .y) (v .cb) (v .cr)) ≡ fromYcc n v
@@ -161,10 +175,10 @@ is-channels w =
 
 pub esycc-within :
     (d : Depth) (px : Pixel) → Samples px
-    → Within (bits d) (backTop d) (backHalf d) (record { one = greatest (bits d); grey = middle (bits d); y = px .first; cb = px .second; cr = px .third })
+    → Within (bits d) (backTop d) (backHalf d) (ofEsycc (bits d) px)
 esycc-within d px h = record {
   ratio = esycc-back-ratio d;
-  terms = esycc-back-terms d;
+  terms = let t = esycc-back-terms d in record { some = t .some; few = t .few; ratio = t .ratio; middle = omega (arith, t .middle) };
   few = halves d;
   offsets = omega (arith, numbers d .zero-at, numbers d .fits);
   y-most = omega (arith, h);
@@ -179,7 +193,7 @@ esycc-within d px h = record {
 
 pub sycc-within :
     (d : Depth) (px : Pixel) → Samples px
-    → Within (bits d) (step (bits d)) 20000 (record { one = 1020; grey = 255; y = 4 * px .first; cb = 2 * px .second; cr = 2 * px .third })
+    → Within (bits d) (step (bits d)) 20000 (ofSycc px)
 sycc-within d px h = record {
   ratio = sycc-back-ratio (bits d);
   terms = sycc-back-terms (numbers d);

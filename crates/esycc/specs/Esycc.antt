@@ -49,5 +49,8 @@ abbrev pub fromYcc : ℕ → Ycc → Pixel
 fromYcc n v = pixel (adding n v 0 28040) (taking n v 6882 14282) (adding n v 35440 3)
 
 -- Rule 12.4 (B7, B8).
+abbrev pub ofEsycc : ℕ → Pixel → Ycc
+ofEsycc n p = record { one = greatest n; grey = middle n; y = p .first; cb = p .second; cr = p .third }
+
 abbrev pub fromEsycc : ℕ → Pixel → Pixel
-fromEsycc n p = fromYcc n (record { one = greatest n; grey = middle n; y = p .first; cb = p .second; cr = p .third })
+fromEsycc n p = fromYcc n (ofEsycc n p)

@@ -5,7 +5,7 @@ use Rattle.numbers.specs.Rounding.{nearest}
 use Rattle.samples.specs.declared.Pixel.{Pixel}
 use Rattle.samples.specs.Samples.{pixel}
 use Rattle.esrgb.specs.Depths.{scale}
-use Rattle.esycc.specs.Esycc.{weighted, luma, fromYcc}
+use Rattle.esycc.specs.Esycc.{weighted, luma, Ycc, fromYcc}
 
 -- Rule 12.6 (C3 and the clip after C4): a channel less luma, clipped to −1/2 to 1/2. Here a half more, so from 0 to 1, in parts of which
 -- half is a half.
@@ -26,5 +26,8 @@ toSycc n p =
     (chromaByte (1000 * p .first) (weighted p) (701 * scale n))
 
 -- Rule 12.7 (C7, C8): luma is y / 255, and a chroma (c / 255 − 1/2) / 2, here all over 1,020.
+abbrev pub ofSycc : Pixel → Ycc
+ofSycc p = record { one = 1020; grey = 255; y = 4 * p .first; cb = 2 * p .second; cr = 2 * p .third }
+
 abbrev pub fromSycc : ℕ → Pixel → Pixel
-fromSycc n p = fromYcc n (record { one = 1020; grey = 255; y = 4 * p .first; cb = 2 * p .second; cr = 2 * p .third })
+fromSycc n p = fromYcc n (ofSycc p)

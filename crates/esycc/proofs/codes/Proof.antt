@@ -10,8 +10,8 @@ use borrow.Author.Needs.{needs}
 use Rattle.esycc.proofs.codes.Statement.{statement}
 use Rattle.esycc.proofs.codes.Tie as tie
 
-together : (x y z most : ℕ) → bitOr (bitOr x y) z ≤ most → (x ≤ most) × (y ≤ most) × (z ≤ most)
-together x y z most h =
+together : (x y z limit most : ℕ) → bitOr (bitOr x y) z ≤ limit → limit ≤ most → (x ≤ most) × (y ≤ most) × (z ≤ most)
+together x y z limit most h within =
     let both = bitOr x y in (
       omega (arith, or-add-and both z, and-le-r both z, or-add-and x y, and-le-r x y),
       omega (arith, or-add-and both z, and-le-r both z, or-comm x y, or-add-and y x, and-le-r y x),
@@ -54,7 +54,7 @@ returns c =
     let second = third .before in
     let first = second .before in
     let a = first .before .args in
-    let within = together _ _ _ _ (c .if1 .taken) in
+    let within = together _ _ _ _ (a .most) (c .if1 .taken) (omega arith) in
     λ i. pixel
     (unclipped (a .most) (a .low) (a .sums .first) _ (first .wrapping-excess .ensures) (omega arith) (within .0) i)
     (unclipped (a .most) (a .low) (a .sums .second) _ (second .wrapping-excess2 .ensures) (omega arith) (within .1) i)

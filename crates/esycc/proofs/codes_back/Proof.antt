@@ -1,11 +1,6 @@
 -- `esycc::codes_back` meets its contract: they stand too high by the lift less the offset.
 -- Assumes nothing.
-use mathlib.Core.Path.{_≡_, _∙_}
-use Prim.Native.Nat.{_-_, _*_}
-use native.Mathlib.Omega.{arith}
-use Rattle.esrgb.specs.Depths.{bits, offset}
 use Rattle.esrgb.proofs.Scale.{scale}
-use Rattle.esycc.specs.HowCounted.{codesAt, backLift}
 use borrow.Author.Needs.{needs}
 use Rattle.esycc.proofs.codes_back.Statement.{statement}
 use Rattle.esycc.proofs.codes_back.Tie as tie
@@ -30,12 +25,7 @@ codes-requires c κs = search needs
 
 returns : tie.Need-returns
 returns c =
-    let step = c .before .step-of in
-    let greatest-is = c .before .before .greatest-of .ensures in
-    let a = c .before .before .before .args in
-    let s = scale (a .depth) in
-    let low-is : backLift - 192 * step .result ≡ backLift - offset (bits (a .depth)) = omega (arith, step .ensures, s .zero-at) in
-    c .codes .ensures ∙ (λ i. codesAt (greatest-is i) (low-is i) (a .sums))
+    rw (c .codes .ensures, c .before .before .greatest-of .ensures, c .before .step-of .ensures, scale (c .before .before .before .args .depth) .zero-at)
 
 pub codes-back-spec : {M : Type 1} → statement M
 codes-back-spec =

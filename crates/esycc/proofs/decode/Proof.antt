@@ -1,10 +1,9 @@
 -- `esycc::decode` meets its contract: each channel is the sum of its row.
 -- Assumes nothing.
-use Prim.Native.Nat.{ℕ, _+_, _*_, _≤_}
-use mathlib.Core.Path.{ap, _∙_}
+use Prim.Native.Nat.{_*_, _≤_}
 use native.Mathlib.Omega.{arith}
 use native.Mathlib.Nat.{mul-le-mul}
-use Rattle.esycc.specs.HowCounted.{withChroma, lessChroma, mostLuma, mostLumaShare}
+use Rattle.esycc.specs.HowCounted.{mostLuma, mostLumaShare}
 use borrow.Author.Needs.{needs}
 use Rattle.esycc.proofs.decode.Statement.{statement}
 use Rattle.esycc.proofs.decode.Tie as tie
@@ -28,16 +27,7 @@ add-chroma-requires-2 : tie.Need-add-chroma-requires-2
 add-chroma-requires-2 c κs = let w = c .before .before .before .pre in (w .0 .blue-start, luma-most (c .before .before), w .0 .blue .cb, w .2, w .0 .blue .cr, w .3)
 
 returns : tie.Need-returns
-returns c =
-    let green = c .before in
-    let red = green .before in
-    let a = red .before .before .args in
-    let luma = red .before .luma-units .ensures in
-    λ i. record {
-      first = (red .add-chroma .ensures ∙ ap (λ (x : ℕ). withChroma (a .rows .red .start) x (a .rows .red .cb * a .cb + a .rows .red .cr * a .cr)) luma) i;
-      second = (green .take-chroma .ensures ∙ ap (λ (x : ℕ). lessChroma (a .rows .green .start) x (a .rows .green .cb * a .cb + a .rows .green .cr * a .cr)) luma) i;
-      third = (c .add-chroma2 .ensures ∙ ap (λ (x : ℕ). withChroma (a .rows .blue .start) x (a .rows .blue .cb * a .cb + a .rows .blue .cr * a .cr)) luma) i;
-    }
+returns c = rw (c .before .before .add-chroma .ensures, c .before .take-chroma .ensures, c .add-chroma2 .ensures, c .before .before .before .luma-units .ensures)
 
 pub decode-spec : {M : Type 1} → statement M
 decode-spec =

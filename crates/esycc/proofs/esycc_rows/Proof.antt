@@ -1,10 +1,5 @@
 -- `esycc::esycc_rows` meets its contract: each arm names the numbers of its depth.
 -- Assumes nothing.
-use mathlib.Core.Path.{sym, ap, _∙_}
-use Rattle.esrgb.specs.declared.Depth.{Depth}
-use Prim.Native.Nat.{_*_}
-use Rattle.esrgb.specs.Depths.{bits, middle}
-use Rattle.esycc.specs.HowCounted.{backTop, backHalf, rowsBy}
 use borrow.Author.Needs.{needs}
 use Rattle.esycc.proofs.esycc_rows.Statement.{statement}
 use Rattle.esycc.proofs.esycc_rows.Tie as tie
@@ -28,13 +23,13 @@ rows-by-requires-3 : tie.Need-rows-by-requires-3
 rows-by-requires-3 c κs = search needs
 
 returns : tie.Need-returns
-returns c = c .rows-by .ensures ∙ ap (λ (d : Depth). rowsBy (backTop d) (2 * backHalf d) (middle (bits d))) (sym (c .before .enum-told .given .1))
+returns c = rw (c .before .enum-told .given .1, c .rows-by .ensures)
 
 returns-2 : tie.Need-returns-2
-returns-2 c = c .rows-by2 .ensures ∙ ap (λ (d : Depth). rowsBy (backTop d) (2 * backHalf d) (middle (bits d))) (sym (c .before .enum-told2 .given .1))
+returns-2 c = rw (c .before .enum-told2 .given .1, c .rows-by2 .ensures)
 
 returns-3 : tie.Need-returns-3
-returns-3 c = c .rows-by3 .ensures ∙ ap (λ (d : Depth). rowsBy (backTop d) (2 * backHalf d) (middle (bits d))) (sym (c .before .enum-told3 .given .1))
+returns-3 c = rw (c .before .enum-told3 .given .1, c .rows-by3 .ensures)
 
 pub esycc-rows-spec : {M : Type 1} → statement M
 esycc-rows-spec =

@@ -1,13 +1,12 @@
 -- `esycc::from_esycc` meets its contract: the rows of the depth give the definition.
 -- Assumes nothing.
-use Prim.Native.Nat.{_-_}
-use mathlib.Core.Path.{sym, ap, subst, _∙_}
+use mathlib.Core.Path.{sym, subst}
 use native.Mathlib.Omega.{arith}
-use Rattle.esrgb.specs.Depths.{bits, greatest, offset}
-use Rattle.esycc.specs.declared.Rows.{Rows}
-use Rattle.esycc.specs.HowCounted.{codesAt, backLift, backSumsBy, FewRows}
+use Rattle.esrgb.specs.Depths.{bits}
+use Rattle.esycc.specs.Esycc.{ofEsycc}
+use Rattle.esycc.specs.HowCounted.{FewRows}
 use Rattle.esycc.proofs.Back.{rows-few}
-use Rattle.esycc.proofs.Pixels.{Samples, esycc-back-terms, esycc-within, is-channels}
+use Rattle.esycc.proofs.Pixels.{Samples, esycc-back-terms, esycc-within, back-sums-are, is-channels}
 use borrow.Author.Needs.{needs}
 use Rattle.esycc.proofs.from_esycc.Statement.{statement}
 use Rattle.esycc.proofs.from_esycc.Tie as tie
@@ -37,10 +36,8 @@ returns c =
     let rows = c .before .before .before .before .before in
     let a = rows .before .args in
     let fits : Samples (a .p) = omega arith in
-    let sums = c .before .decode .ensures ∙ ap (λ (r : Rows). backSumsBy r (a .p .first) (a .p .second) (a .p .third)) (rows .esycc-rows .ensures) in
-    c .codes-back .ensures
-    ∙ ap (codesAt (greatest (bits (a .depth))) (backLift - offset (bits (a .depth)))) sums
-    ∙ is-channels (esycc-within (a .depth) (a .p) fits)
+    let sums = back-sums-are (ofEsycc (bits (a .depth)) (a .p)) _ _ _ (c .before .decode .ensures) (rows .esycc-rows .ensures) (omega arith) (omega arith) (omega arith) in
+    rw (c .codes-back .ensures, sums) (is-channels (esycc-within (a .depth) (a .p) fits))
 
 pub from-esycc-spec : {M : Type 1} → statement M
 from-esycc-spec =

@@ -1,14 +1,12 @@
 -- `esycc::from_sycc` meets its contract: the rows of the depth give the definition.
 -- Assumes nothing.
-use Prim.Native.Nat.{_-_, _*_}
-use mathlib.Core.Path.{sym, ap, subst, _∙_}
+use mathlib.Core.Path.{sym, subst}
 use native.Mathlib.Omega.{arith}
-use Rattle.esrgb.specs.Depths.{bits, greatest, offset}
 use Rattle.esrgb.proofs.Scale.{scale}
-use Rattle.esycc.specs.declared.Rows.{Rows}
-use Rattle.esycc.specs.HowCounted.{codesAt, backLift, backSumsBy, FewRows}
+use Rattle.esycc.specs.Sycc.{ofSycc}
+use Rattle.esycc.specs.HowCounted.{FewRows}
 use Rattle.esycc.proofs.Back.{rows-few}
-use Rattle.esycc.proofs.Pixels.{Samples, sycc-back-terms, sycc-within, is-channels}
+use Rattle.esycc.proofs.Pixels.{Samples, sycc-back-terms, sycc-within, back-sums-are, is-channels}
 use borrow.Author.Needs.{needs}
 use Rattle.esycc.proofs.from_sycc.Statement.{statement}
 use Rattle.esycc.proofs.from_sycc.Tie as tie
@@ -47,10 +45,8 @@ returns c =
     let rows = c .before .before .before .before .before in
     let a = rows .before .args in
     let fits : Samples (a .p) = omega arith in
-    let sums = c .before .decode .ensures ∙ ap (λ (r : Rows). backSumsBy r (4 * a .p .first) (2 * a .p .second) (2 * a .p .third)) (rows .sycc-rows .ensures) in
-    c .codes-back .ensures
-    ∙ ap (codesAt (greatest (bits (a .depth))) (backLift - offset (bits (a .depth)))) sums
-    ∙ is-channels (sycc-within (a .depth) (a .p) fits)
+    let sums = back-sums-are (ofSycc (a .p)) _ _ _ (c .before .decode .ensures) (rows .sycc-rows .ensures) (omega arith) (omega arith) (omega arith) in
+    rw (c .codes-back .ensures, sums) (is-channels (sycc-within (a .depth) (a .p) fits))
 
 pub from-sycc-spec : {M : Type 1} → statement M
 from-sycc-spec =

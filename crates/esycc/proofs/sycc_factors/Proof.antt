@@ -1,9 +1,5 @@
 -- `esycc::sycc_factors` meets its contract: each arm names the numbers of its depth.
 -- Assumes nothing.
-use mathlib.Core.Path.{sym, ap, _∙_}
-use Rattle.esrgb.specs.declared.Depth.{Depth}
-use Rattle.esrgb.specs.Depths.{bits, step}
-use Rattle.esycc.specs.HowCounted.{factorsBy}
 use borrow.Author.Needs.{needs}
 use Rattle.esycc.proofs.sycc_factors.Statement.{statement}
 use Rattle.esycc.proofs.sycc_factors.Tie as tie
@@ -27,13 +23,13 @@ factors-by-requires-3 : tie.Need-factors-by-requires-3
 factors-by-requires-3 c κs = search needs
 
 returns : tie.Need-returns
-returns c = c .factors-by .ensures ∙ ap (λ (d : Depth). factorsBy 1 (step (bits d)) 1772 1402) (sym (c .before .enum-told .given .1))
+returns c = rw (c .before .enum-told .given .1, c .factors-by .ensures)
 
 returns-2 : tie.Need-returns-2
-returns-2 c = c .factors-by2 .ensures ∙ ap (λ (d : Depth). factorsBy 1 (step (bits d)) 1772 1402) (sym (c .before .enum-told2 .given .1))
+returns-2 c = rw (c .before .enum-told2 .given .1, c .factors-by2 .ensures)
 
 returns-3 : tie.Need-returns-3
-returns-3 c = c .factors-by3 .ensures ∙ ap (λ (d : Depth). factorsBy 1 (step (bits d)) 1772 1402) (sym (c .before .enum-told3 .given .1))
+returns-3 c = rw (c .before .enum-told3 .given .1, c .factors-by3 .ensures)
 
 pub sycc-factors-spec : {M : Type 1} → statement M
 sycc-factors-spec =

@@ -1,12 +1,12 @@
 -- `esycc::to_esycc` meets its contract: the factors of the depth give the definition.
 -- Assumes nothing.
 use Prim.Native.Nat.{_*_}
-use mathlib.Core.Path.{_≡_, sym, subst, _∙_}
+use mathlib.Core.Path.{sym, subst}
 use native.Mathlib.Omega.{arith}
 use Rattle.esrgb.specs.Depths.{bits, middle, step}
 use Rattle.esrgb.proofs.Scale.{scale}
-use Rattle.esycc.specs.HowCounted.{lift, codesAt, sumsBy, Few}
-use Rattle.esycc.proofs.Pixels.{Samples, esycc-few, is-esycc}
+use Rattle.esycc.specs.HowCounted.{Few}
+use Rattle.esycc.proofs.Pixels.{Samples, esycc-few, sums-are, is-esycc}
 use borrow.Author.Needs.{needs}
 use Rattle.esycc.proofs.to_esycc.Statement.{statement}
 use Rattle.esycc.proofs.to_esycc.Tie as tie
@@ -36,13 +36,11 @@ returns : tie.Need-returns
 returns c =
     let factors = c .before .before .before in
     let a = factors .before .before .args in
-    let n = bits (a .depth) in
+    let s = scale (a .depth) in
     let step-is = factors .before .step-of .ensures in
-    let greatest-is = c .before .greatest-of .ensures in
-    let origin : 256 * factors .before .step-of .result ≡ middle n = omega (arith, step-is, scale (a .depth) .half) in
     let fits : Samples (a .p) = omega arith in
-    let sums = c .before .before .encode .ensures ∙ (λ i. sumsBy (factors .esycc-factors .ensures i) (origin i) (192000 * step-is i) (a .p)) in
-    c .codes .ensures ∙ (λ i. codesAt (greatest-is i) lift (sums i)) ∙ is-esycc (a .depth) (a .p) fits
+    let sums = sums-are (a .p) _ _ (middle (bits (a .depth))) (192000 * step (bits (a .depth))) (c .before .before .encode .ensures) (factors .esycc-factors .ensures) (omega (arith, step-is, s .half)) (omega (arith, step-is)) in
+    rw (c .codes .ensures, c .before .greatest-of .ensures, sums) (is-esycc (a .depth) (a .p) fits)
 
 pub to-esycc-spec : {M : Type 1} → statement M
 to-esycc-spec =

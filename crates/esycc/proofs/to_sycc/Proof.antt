@@ -1,12 +1,12 @@
 -- `esycc::to_sycc` meets its contract: the factors of the depth give the definition, but for the clip before the encoding.
 -- Assumes nothing.
-use Prim.Native.Nat.{_*_, _+_, max}
-use mathlib.Core.Path.{sym, ap, subst, _∙_}
+use Prim.Native.Nat.{_*_}
+use mathlib.Core.Path.{sym, subst}
 use native.Mathlib.Omega.{arith}
+use Rattle.esrgb.specs.Depths.{bits, step}
 use Rattle.esrgb.proofs.Scale.{scale}
-use Rattle.esycc.specs.declared.Sums.{Sums}
-use Rattle.esycc.specs.HowCounted.{lift, codesAt, sumsBy, Few}
-use Rattle.esycc.proofs.Pixels.{Samples, sycc-few, is-sycc}
+use Rattle.esycc.specs.HowCounted.{Few}
+use Rattle.esycc.proofs.Pixels.{Samples, sycc-few, sums-are, is-sycc}
 use borrow.Author.Needs.{needs}
 use Rattle.esycc.proofs.to_sycc.Statement.{statement}
 use Rattle.esycc.proofs.to_sycc.Tie as tie
@@ -37,15 +37,10 @@ codes-requires c κs = search needs
 returns : tie.Need-returns
 returns c =
     let encoded = c .before .before .before in
-    let step-is = encoded .before .step-of .ensures in
     let factors = encoded .before .before in
     let a = factors .before .args in
-    let sums = encoded .encode .ensures ∙ (λ i. sumsBy (factors .sycc-factors .ensures i) 128 (192000 * step-is i) (a .p)) in
-    let second = c .before .before .at-least-one .ensures ∙ ap (λ (s : Sums). max (lift + 1) (s .second)) sums in
-    let third = c .before .at-least-one2 .ensures ∙ ap (λ (s : Sums). max (lift + 1) (s .third)) sums in
-    c .codes .ensures
-    ∙ (λ i. codesAt 255 lift (record { first = sums i .first; second = second i; third = third i }))
-    ∙ is-sycc (a .depth) (a .p) (samples (factors .before))
+    let sums = sums-are (a .p) _ _ 128 (192000 * step (bits (a .depth))) (encoded .encode .ensures) (factors .sycc-factors .ensures) (omega arith) (omega (arith, encoded .before .step-of .ensures)) in
+    rw (c .codes .ensures, c .before .before .at-least-one .ensures, c .before .at-least-one2 .ensures, sums) (is-sycc (a .depth) (a .p) (samples (factors .before)))
 
 pub to-sycc-spec : {M : Type 1} → statement M
 to-sycc-spec =

@@ -2,23 +2,19 @@
 -- Assumes nothing.
 use Prim.Native.Nat.{ℕ, suc, _+_, _-_, _*_, _/_, _%_, _^_, _≤_, _<_, min}
 use mathlib.Core.Path.{_≡_, refl, sym, ap, _∙_}
-use native.Mathlib.Nat.{mod-mod, mod-eq-of-lt, mul-div-mul-left, div-eq-of-lt, div-eq-of-lt-le, le-div-iff-mul-le, div-lt-iff-lt-mul, mul-add-div-right, mul-div-left, mul-assoc, add-mul, add-zero, one-mul, mul-comm, mul-le-mul, le-pred-of-lt, pow-succ', one-le-pow}
+use native.Mathlib.Nat.{mod-mod, mod-eq-of-lt, div-eq-of-lt, div-eq-of-lt-le, le-div-iff-mul-le, div-lt-iff-lt-mul, mul-add-div-right, mul-div-left, mul-assoc, add-mul, add-zero, one-mul, mul-comm, mul-le-mul, le-pred-of-lt, pow-succ', one-le-pow}
 use native.Mathlib.Omega.{arith}
 use native.Mathlib.Decide.{decLe}
 use lib.Pow.{pow-lt, pow-mono, pow-add, le-ones, high-ones}
 use borrow.Author.Tests.{le-leb, lt-leb}
 use Rattle.numbers.specs.Rounding.{nearest}
+use Rattle.numbers.proofs.Shares.{nearest-even}
 use Rattle.esrgb.specs.declared.SampleRule.the-variants.{Affine, ToEight, Round}
 use Rattle.esrgb.specs.declared.DepthChange.the-variants.{Up, Down}
 use Rattle.esrgb.specs.Depths.{greatest, step}
 use Rattle.esrgb.specs.Codes.{fromSrgb, toSrgb, changeDepth}
 use Rattle.esrgb.specs.HowApplied.{applied, ruleOf, Computes, lineOf, cutOf, roundingOf, changeOf}
 use Rattle.esrgb.proofs.Scale.{Scale}
-
--- To the nearest over an even number: half of it is added first.
-nearest-even : (h y : ℕ) → nearest y (2 * h) ≡ (y + h) / (2 * h)
-unfolding nearest
-nearest-even h y = ap (λ (z : ℕ). z / (2 * (2 * h))) (omega arith) ∙ mul-div-mul-left (y + h) (2 * h) (omega arith)
 
 -- (a + h) ÷ 2h, where a is what x is above 384h, needs no look at which is greater: below 383h both sides are 0
 low-part : (h x : ℕ) → 1 ≤ h → (x - (192 * (2 * h) - h)) / (2 * h) ≡ nearest (x - 192 * (2 * h)) (2 * h)

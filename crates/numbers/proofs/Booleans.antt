@@ -18,3 +18,7 @@ and-false false = refl
 pub and-right : (a : Bool) → a && true ≡ a
 and-right true = refl
 and-right false = refl
+
+pub and-same : (a : Bool) → a && a ≡ a
+and-same true = refl
+and-same false = refl

@@ -81,11 +81,15 @@ module _ (h g lift allowance : ℕ) {up down more less d e : ℕ} (a : Counted (
       (omega (arith, a .near, b .low, dP, uE, starts, shorts))
       (omega (arith, a .low, b .near, dP, uE, starts, lasts, short, downs, next))
 
+-- To the nearest over an even number: half of it is added first.
+pub nearest-even : (h y : ℕ) → nearest y (2 * h) ≡ (y + h) / (2 * h)
+unfolding nearest
+nearest-even h y = ap (λ (z : ℕ). z / (2 * (2 * h))) (omega arith) ∙ mul-div-mul-left (y + h) (2 * h) (omega arith)
+
 -- (2h lift + h + up − down) / 2h, less a part of the lift, is the quotient to the nearest with what is left of the lift.
 lifted :
     (h low grey up down : ℕ) → 0 < h → down ≤ 2 * h * (low + grey)
     → (2 * h * (low + grey) + h + up - down) / (2 * h) - low ≡ nearest (up + grey * (2 * h) - down) (2 * h)
-unfolding nearest
 lifted h low grey up down some fits =
     let split : 2 * h * (low + grey) ≡ 2 * h * low + grey * (2 * h) = omega (arith, mul-add (2 * h) low grey, mul-comm grey (2 * h)) in
     elim (decLe down (up + grey * (2 * h))) [
@@ -93,11 +97,10 @@ lifted h low grey up down some fits =
           let x : ℕ = up + grey * (2 * h) - down in
           let sum : 2 * h * (low + grey) + h + up - down ≡ 2 * h * low + (x + h) = omega arith in
           let q : (2 * h * (low + grey) + h + up - down) / (2 * h) ≡ low + (x + h) / (2 * h) = ap (λ (y : ℕ). y / (2 * h)) sum ∙ mul-add-div (omega arith) low (x + h) in
-          let half : (2 * x + 2 * h) / (2 * (2 * h)) ≡ (x + h) / (2 * h) = ap (λ (y : ℕ). y / (2 * (2 * h))) (omega arith) ∙ mul-div-mul-left (x + h) (2 * h) (omega arith) in
-          omega (arith, q, half)
+          omega (arith, q, nearest-even h x)
       | no below ↦
           let none : up + grey * (2 * h) - down ≡ 0 = omega arith in
-          let zero-is : (2 * (up + grey * (2 * h) - down) + 2 * h) / (2 * (2 * h)) ≡ 0 = div-eq-of-lt (omega arith) in
+          let zero-is : nearest (up + grey * (2 * h) - down) (2 * h) ≡ 0 = nearest-even h (up + grey * (2 * h) - down) ∙ div-eq-of-lt (omega arith) in
           let next : (low + 1) * (2 * h) ≡ 2 * h * low + 2 * h = omega (arith, mul-comm (low + 1) (2 * h), mul-add (2 * h) low 1) in
           let least : (2 * h * (low + grey) + h + up - down) / (2 * h) < low + 1 = div-lt-iff-lt-mul {k = 2 * h} (omega arith) .1 (omega arith) in
           omega (arith, zero-is, least)

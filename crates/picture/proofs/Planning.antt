@@ -3,10 +3,11 @@
 -- Assumes nothing.
 use Prim.Native.Nat.{ℕ, _*_, _/_, _%_}
 use mathlib.Core.Path.{_≡_, refl, sym, ap, _∙_}
-use mathlib.Core.Bool.{Bool, true, false, _&&_}
+use mathlib.Core.Bool.{Bool, true, false}
 use mathlib.Core.List.{List, [], _∷_, map}
 use native.Mathlib.Omega.{arith}
 use lib.ListN.{length}
+use Rattle.numbers.proofs.Booleans.{and-right, and-same}
 use Rattle.samples.specs.declared.Coding.{Coding}
 use Rattle.samples.specs.declared.Coding.the-variants.{Bytes, Codes}
 use Rattle.samples.specs.Samples.{place, pixelSize, samplesOf, sampleBytes, bytesOf, pixelsOf, samplesIn, read, write}
@@ -112,20 +113,12 @@ module _ (d : Depth) where
   }
 
 -- ---- the conversions of the rules for pixels, each offered where its depth is
-and-same : (b : Bool) → b && b ≡ b
-and-same true = refl
-and-same false = refl
-
-with-true : (b : Bool) → b && true ≡ b
-with-true true = refl
-with-true false = refl
-
 pub offers-done : (rule : PixelRule) (n : ℕ) → offers (doneBy rule n) ≡ offered n
 offers-done rule.ToLumaChroma n = and-same (offered n)
 offers-done rule.FromLumaChroma n = and-same (offered n)
 offers-done rule.ToEsycc n = and-same (offered n)
 offers-done rule.FromEsycc n = and-same (offered n)
-offers-done rule.ToSycc n = with-true (offered n)
+offers-done rule.ToSycc n = and-right (offered n)
 offers-done rule.FromSycc n = refl
 
 pub plan-pixels : (rule : PixelRule) (d : Depth) → Plans (doneBy rule (bits d)) (codingOf (source (doneBy rule (bits d)))) (Pixels rule d)

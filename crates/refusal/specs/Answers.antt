@@ -1,7 +1,6 @@
 -- What an answer says, in the numbers of the rules, and what it leaves in the destination (rules 4.4 and 4.5).
 -- Assumes nothing.
 use Prim.Native.Nat.{ℕ}
-use mathlib.Core.List.{List}
 use Rattle.refusal.specs.declared.Checked.{Checked}
 use Rattle.refusal.specs.declared.Checked.the-variants.{Sound, Faulty}
 use Rattle.refusal.specs.declared.Answer.{Answer}
@@ -42,8 +41,8 @@ abbrev pub refusesOr : Verdict → Said → Said
 refusesOr sound rest = rest
 refusesOr (faulty number) rest = refused number
 
--- What the destination holds afterwards: what the operation writes if it accepts, and what was there if it refuses.
-abbrev pub leaves : {A : Type 0} → Said → List A → List A → List A
+-- What a destination, or a number beside it, holds afterwards: what the operation writes if it accepts, and what was there if it refuses.
+abbrev pub leaves : {A : Type 0} → Said → A → A → A
 leaves (accepted n) new old = new
 leaves (refused k) new old = old
 leaves (refusedAt k at) new old = old

@@ -22,3 +22,7 @@ and-right false = refl
 pub and-same : (a : Bool) → a && a ≡ a
 and-same true = refl
 and-same false = refl
+
+pub or-right : (a : Bool) → a || false ≡ a
+or-right true = refl
+or-right false = refl

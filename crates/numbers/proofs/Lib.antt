@@ -5,3 +5,5 @@ pub mod Writing
 pub mod Sign
 pub mod Bits
 pub mod Shares
+pub mod Ranks
+pub mod Counting

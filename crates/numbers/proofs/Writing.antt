@@ -14,13 +14,19 @@ module _ {A B : Type 0} (whole : List A → List B) where
   abbrev pub Written : List A → List B → ℕ → ℕ → Type 0
   Written xs dst at k = take at dst ++ whole (drop k xs) ≡ whole xs
 
-  -- One more element of the source, and what is made of it.
+  -- More of the source, up to element m, and what is made of it.
+  pub written-part :
+      (xs : List A) (k m at next : ℕ) (dst after made : List B) → take next after ≡ take at dst ++ made
+      → whole (drop k xs) ≡ made ++ whole (drop m xs) → Written xs dst at k → Written xs after next m
+  written-part xs k m at next dst after made t w e = rw (t, append-assoc (take at dst) made (whole (drop m xs)), ← w) e
+
+  -- The same of one element.
   pub written-more :
       (xs : List A) (d : A) (k at next : ℕ) (dst after made : List B) → k < length xs
       → take next after ≡ take at dst ++ made → whole (getD xs k d ∷ drop (suc k) xs) ≡ made ++ whole (drop (suc k) xs)
       → Written xs dst at k → Written xs after next (k + 1)
   written-more xs d k at next dst after made h t w e =
-      rw (add-one k, t, append-assoc (take at dst) made (whole (drop (suc k) xs)), ← w) (rw (drop-cons xs k d h) at e)
+      rw (add-one k) (written-part xs k (suc k) at next dst after made t (rw (drop-cons xs k d h) w) e)
 
   pub written-all :
       (xs : List A) (dst : List B) (at k : ℕ) → whole [] ≡ [] → length xs ≤ k → length dst ≤ at → Written xs dst at k → dst ≡ whole xs

@@ -3,8 +3,9 @@
 // take and give single numbers, so that they need no bound on an index and ask nothing of a caller.
 ghost use mathlib.Core.Path.{_≡_};
 ghost use mathlib.Core.List.{[], _∷_};
-ghost use Prim.Native.Nat.{_+_, _-_, min};
+ghost use Prim.Native.Nat.{_+_, _-_, min, max};
 ghost use Rattle.numbers.specs.Bytes.{littleEndian, lowBytes};
+ghost use Rattle.numbers.specs.Ranks.{rank};
 
 // The number of two bytes, the low byte first.
 pub fn from_two(low: u8, high: u8) -> u16
@@ -67,4 +68,20 @@ pub fn saturating_add(x: u16, y: u16) -> u16
     ensures { λ r. ⌜ r ≡ min 65535 (x + y) ⌝ }
 {
     if 65535 - y < x { 65535 } else { x + y }
+}
+
+// ---- the greatest of many numbers: of two signed numbers there is one instruction for the greater, of two
+// unsigned ones none. So the greatest so far is kept as a signed number, by its rank.
+
+pub fn raised(top: i16, x: u16) -> i16
+    ensures { λ r. ⌜ rank r ≡ max (rank top) x ⌝ }
+{
+    let signed = (x as i32 - 32768) as i16;
+    if top < signed { signed } else { top }
+}
+
+pub fn rank_of(top: i16) -> u16
+    ensures { λ r. ⌜ r ≡ rank top ⌝ }
+{
+    (top as i32 + 32768) as u16
 }

@@ -1,13 +1,12 @@
 -- `numbers::raised` meets its contract: the number of rank x is the greater one just where x is the greater rank.
 -- Assumes nothing.
-use Prim.Native.Nat.{_+_}
-use mathlib.Core.Path.{_≡_, ap, _∙_}
-use mathlib.Core.Bool.{Bool, true, false}
+use mathlib.Core.Path.{_≡_}
+use mathlib.Core.Bool.{true, false}
 use native.Mathlib.Omega.{arith}
 use lib.Dec.{ltb}
-use lib.IntN.{ℤ, pos, _-ℤ_}
+use lib.IntN.{pos, _-ℤ_}
 use mir.Syntax.{w16, w32}
-use mir.Val.{SFits, toZ, ofZ}
+use mir.Val.{toZ, ofZ}
 use mir.ValLaws.{toZ-ofZ, toZ-pos}
 use borrow.Author.Tests.{ltb-true, ltb-false}
 use Rattle.numbers.specs.Ranks.{rank}
@@ -30,6 +29,12 @@ module _ (c : tie.Start) where
   top-is : toZ w16 (ofZ w16 (c .args .top)) ≡ c .args .top
   top-is = toZ-ofZ w16 _ (c .fits .top)
 
+  signed-rank : rank (toZ w16 (ofZ w16 (toZ w32 (ofZ w32 (toZ w32 (c .args .x) -ℤ pos 32768))))) ≡ c .args .x
+  signed-rank = rw in-sixteen (rank-ranked (c .args .x) (omega arith))
+
+  top-rank : rank (toZ w16 (ofZ w16 (c .args .top))) ≡ rank (c .args .top)
+  top-rank = rw top-is
+
 cast-signed : tie.Need-cast-signed
 cast-signed c = search needs
 
@@ -44,14 +49,14 @@ returns c =
     let s = c .before in
     let less : ltb (rank (s .args .top)) (s .args .x) ≡ true =
     rw (← in-order (s .args .top) (s .args .x) (omega (arith, s .fits .top))) (rw (top-is s, in-sixteen s) at (c .if1 .taken)) in
-    rw (in-sixteen s, rank-ranked (s .args .x) (omega arith)) (omega (arith, ltb-true (rank (s .args .top)) (s .args .x) less))
+    omega (arith, ltb-true (rank (s .args .top)) (s .args .x) less, signed-rank s, top-rank s)
 
 returns-2 : tie.Need-returns-2
 returns-2 c =
     let s = c .before in
     let not-less : ltb (rank (s .args .top)) (s .args .x) ≡ false =
     rw (← in-order (s .args .top) (s .args .x) (omega (arith, s .fits .top))) (rw (top-is s, in-sixteen s) at (c .if1 .left)) in
-    rw (top-is s) (omega (arith, ltb-false (rank (s .args .top)) (s .args .x) not-less))
+    omega (arith, ltb-false (rank (s .args .top)) (s .args .x) not-less, signed-rank s, top-rank s)
 
 pub raised-spec : {M : Type 1} → statement M
 raised-spec = tie.close (tie.spec cast-signed sub-signed cast-signed-2 returns returns-2)

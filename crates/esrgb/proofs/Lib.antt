@@ -1,3 +1,4 @@
 pub mod Scale
 pub mod Eight
 pub mod Rules
+pub mod Held

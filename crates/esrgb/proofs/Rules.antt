@@ -12,7 +12,7 @@ use Rattle.numbers.proofs.Shares.{nearest-even}
 use Rattle.esrgb.specs.declared.SampleRule.the-variants.{Affine, ToEight, Round}
 use Rattle.esrgb.specs.declared.DepthChange.the-variants.{Up, Down}
 use Rattle.esrgb.specs.Depths.{greatest, step}
-use Rattle.esrgb.specs.Codes.{fromSrgb, toSrgb, changeDepth}
+use Rattle.esrgb.specs.Codes.{fromSrgb, toSrgb, srgbValue, changeDepth}
 use Rattle.esrgb.specs.HowApplied.{applied, ruleOf, Computes, lineOf, cutOf, roundingOf, changeOf}
 use Rattle.esrgb.proofs.Scale.{Scale}
 
@@ -49,7 +49,7 @@ pub from-srgb-computes : (n : ℕ) → Computes (Affine (lineOf n)) (fromSrgb n)
 unfolding applied fromSrgb
 from-srgb-computes n x = mod-mod _ _
 
-pub to-srgb-computes : (n : ℕ) → Scale n → Computes (ToEight (cutOf n)) (toSrgb n)
+pub to-srgb-computes : (n : ℕ) → Scale n → Computes (ToEight (cutOf n)) (srgbValue n)
 unfolding applied toSrgb
 to-srgb-computes n s x =
     let e : step n / 2 ≡ s .half-step = omega (arith, s .even) in

@@ -2,11 +2,12 @@
 -- Assumes nothing.
 use Prim.Native.Nat.{ℕ, _+_, _-_, _*_, _/_, _%_, _^_, min}
 use mathlib.Core.Path.{_≡_}
-use mathlib.Core.Bool.{cond}
-use lib.Dec.{leb}
-use Rattle.esrgb.specs.Depths.{greatest, offset, step}
+use mathlib.Core.Bool.{Bool, cond}
+use lib.Dec.{leb, ltb}
+use Rattle.esrgb.specs.Depths.{greatest, offset, step, scale}
 use Rattle.esrgb.specs.declared.Line.{Line}
 use Rattle.esrgb.specs.declared.Cut.{Cut}
+use Rattle.esrgb.specs.declared.Gamut.{Gamut}
 use Rattle.esrgb.specs.declared.Rounding.{Rounding}
 use Rattle.esrgb.specs.declared.SampleRule.{SampleRule}
 use Rattle.esrgb.specs.declared.DepthChange.{DepthChange}
@@ -32,6 +33,17 @@ lineOf n = record { factor = step n; offset = offset n }
 
 abbrev pub cutOf : ℕ → Cut
 cutOf n = record { low = offset n - step n / 2; shift = n - 9 }
+
+-- The codes that sRGB holds; how far a code is above the lowest of them, in 16 bits, where one below it is at the top; and whether it is not
+-- among them.
+abbrev pub gamutOf : ℕ → Gamut
+gamutOf n = record { lowest = offset n; span = scale n }
+
+abbrev pub aboveLowest : Gamut → ℕ → ℕ
+aboveLowest gamut x = (x + 65536 - gamut .lowest) % 65536
+
+abbrev pub outside : Gamut → ℕ → Bool
+outside gamut x = ltb (gamut .span) (aboveLowest gamut x)
 
 -- Codes of n bits are lifted to the end of 16 bits, and by half of what they are divided by. A sum that would pass 65,535 is that of a
 -- code whose nearest is above the greatest of m bits: so the clip is where sums stop.

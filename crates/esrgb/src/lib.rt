@@ -1,12 +1,12 @@
 // e-sRGB codes, one sample at a time (rules, section 1): the depths that are offered, sRGB to e-sRGB and
-// back, and one depth to another. It promises that a rule computes the definition of its depth, for every
-// sample.
+// back, which codes sRGB cannot hold, and one depth to another. It promises that a rule computes the
+// definition of its depth, for every sample.
 use numbers::excess;
 use numbers::saturating_add;
 ghost use mathlib.Core.Path.{_≡_};
 ghost use Rattle.esrgb.specs.Depths.{bits, Names, greatest, step};
 ghost use Rattle.esrgb.specs.Codes.{fromSrgb, toSrgb};
-ghost use Rattle.esrgb.specs.HowApplied.{applied, lineOf, cutOf, changeOf};
+ghost use Rattle.esrgb.specs.HowApplied.{applied, lineOf, cutOf, gamutOf, aboveLowest, outside, changeOf};
 
 // A depth of e-sRGB.
 pub enum Depth {
@@ -141,6 +141,37 @@ pub fn cut_of(depth: Depth) -> Cut
     }
 }
 
+// The codes that sRGB holds: from the lowest on, up to a span above it.
+pub struct Gamut {
+    pub lowest: u16,
+    pub span: u16,
+}
+
+pub fn gamut_of(depth: Depth) -> Gamut
+    ensures { λ r. ⌜ r ≡ gamutOf (bits depth) ⌝ }
+{
+    let step = step_of(depth);
+    Gamut {
+        lowest: 192 * step,
+        span: 255 * step,
+    }
+}
+
+// How far a code is above the lowest that sRGB holds. One below it wraps to the top of 16 bits, so that one
+// test tells codes that are too low and codes that are too high.
+pub fn above_lowest(gamut: Gamut, code: u16) -> u16
+    ensures { λ r. ⌜ r ≡ aboveLowest gamut code ⌝ }
+{
+    ((code as u32 + 65536 - gamut.lowest as u32) % 65536) as u16
+}
+
+// Is it a code that sRGB cannot hold?
+pub fn is_outside(gamut: Gamut, code: u16) -> bool
+    ensures { λ r. ⌜ r ≡ outside gamut code ⌝ }
+{
+    gamut.span < above_lowest(gamut, code)
+}
+
 // The rule from one depth to another: by a factor, or to the nearest code.
 pub enum DepthChange {
     Up(Line),
@@ -176,9 +207,18 @@ pub fn from_srgb(depth: Depth, value: u8) -> u16
     step_of(depth) * (value as u16 + 192)
 }
 
-// One code as a value of sRGB.
-pub fn to_srgb(depth: Depth, code: u16) -> u8
+// A code as a value of sRGB, and whether it is a code that sRGB cannot hold.
+pub struct SrgbSample {
+    pub value: u8,
+    pub clipped: bool,
+}
+
+pub fn to_srgb(depth: Depth, code: u16) -> SrgbSample
     ensures { λ r. ⌜ r ≡ toSrgb (bits depth) code ⌝ }
 {
-    to_eight(cut_of(depth), code) as u8
+    let value = to_eight(cut_of(depth), code) as u8;
+    SrgbSample {
+        value,
+        clipped: is_outside(gamut_of(depth), code),
+    }
 }

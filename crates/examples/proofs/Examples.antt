@@ -14,7 +14,7 @@ use Rattle.examples.specs.Examples.{AllHold, done, _&_, examples}
 pub all-hold : AllHold examples
 unfolding nearest nearestDown fromSrgb toSrgb changeDepth luma chroma blueChroma redChroma clippedTo redBack greenBack blueBack esycc.code esycc.luma esycc.chroma esycc.adding esycc.taking halfMore chromaByte
 all-hold =
-    refl & refl & refl & refl & refl
+    refl & refl & refl & refl & refl & refl & refl & refl & refl & refl & refl
     & light-examples .0 & light-examples .1 & light-examples .2 & light-examples .3 & light-examples .4
     & code-examples .0 & code-examples .1
     & refl & refl & refl & refl & refl & refl & refl & refl & refl

@@ -3,7 +3,7 @@
 -- Assumes nothing.
 use Prim.Native.Nat.{ℕ, suc, _+_, _-_}
 use mathlib.Core.Path.{_≡_}
-use mathlib.Core.Bool.{true, false}
+use mathlib.Core.Bool.{Bool, true, false}
 use mathlib.Core.List.{List, [], _∷_}
 use lib.IntN.{ℤ, pos, negsuc}
 use lib.Ieee.{nan, inf, fin, neg}
@@ -11,7 +11,7 @@ use Rattle.doubles.specs.Doubles.{double}
 use Rattle.samples.specs.declared.Pixel.{Pixel}
 use Rattle.samples.specs.Samples.{pixel}
 use Rattle.esrgb.specs.Depths.{offset}
-use Rattle.esrgb.specs.Codes.{fromSrgb, toSrgb}
+use Rattle.esrgb.specs.Codes.{fromSrgb, toSrgb, srgbValue}
 use Rattle.picture.specs.declared.Conversion.{Conversion}
 use Rattle.picture.specs.declared.Conversion.the-variants.{FromSrgb, ToSrgb, ChangeDepth, ToLumaChroma, ToEsycc, FromEsycc, ToSycc, FromSycc}
 use Rattle.lumachroma.specs.LumaChroma.{toLumaChroma, toRgb}
@@ -27,6 +27,7 @@ pub data Example : Type 0 where
   convert : Conversion → Pixel → Pixel → Example
   thereAndBack : ℕ → Pixel → Pixel → Example
   fromSrgbAndBack : ℕ → Pixel → Pixel → Example
+  clips : ℕ → ℕ → Bool → Example
   lightOf : ℕ → ℤ → ℤ → Example
   codeOf : ℕ → ℤ → ℕ → Example
   tint : Tint → TintSaid → Example
@@ -37,11 +38,12 @@ codeOfLevel n (pos v) = offset n + v
 codeOfLevel n (negsuc k) = offset n - suc k
 
 -- What an example says: Convert of one pixel; a pixel of codes to luma and chroma and back; an sRGB pixel to codes, there and
--- back, and to sRGB; the light of a level; the code of a light; what is said of a tint.
+-- back, and to sRGB; whether sRGB cannot hold a code; the light of a level; the code of a light; what is said of a tint.
 abbrev pub Holds : Example → Type 0
 Holds (convert c p printed) = pixelOf c p ≡ printed
 Holds (thereAndBack n p printed) = toRgb n (toLumaChroma n p) ≡ printed
-Holds (fromSrgbAndBack n p printed) = each (toSrgb n) (toRgb n (toLumaChroma n (each (fromSrgb n) p))) ≡ printed
+Holds (fromSrgbAndBack n p printed) = each (srgbValue n) (toRgb n (toLumaChroma n (each (fromSrgb n) p))) ≡ printed
+Holds (clips n code printed) = toSrgb n code .clipped ≡ printed
 Holds (lightOf n level printed) = lightOfCode n (codeOfLevel n level) ≡ printed
 Holds (codeOf n light printed) = codeOfLight n light ≡ printed
 Holds (tint t printed) = tintSays t ≡ printed
@@ -59,6 +61,12 @@ examples =
     ∷ convert (ToSrgb 10) (pixel 383 385 893) (pixel 0 1 255)
     ∷ convert (ToSrgb 10) (pixel 1023 1023 1023) (pixel 255 255 255)
     ∷ convert (ToSrgb 12) (pixel 1539 1540 1540) (pixel 0 1 1)
+    ∷ clips 10 383 true
+    ∷ clips 10 384 false
+    ∷ clips 10 894 false
+    ∷ clips 10 895 true
+    ∷ clips 16 57216 false
+    ∷ clips 16 57217 true
     -- Rule 10.2.
     ∷ lightOf 12 (pos 1) (pos 38)
     ∷ lightOf 12 (negsuc 0) (negsuc 37)

@@ -1,23 +1,24 @@
 -- From what an operation says and leaves, and what C is told of its answer, to what C gets.
 -- Assumes nothing.
 use Prim.Native.Nat.{ℕ}
-use mathlib.Core.Path.{_≡_, refl, ap, _∙_}
+use mathlib.Core.Path.{_≡_, refl, ap, subst, _∙_}
 use mathlib.Core.List.{List}
 use lib.IntN.{ℤ, pos}
 use lib.ListN.{length}
 use mir.Syntax.{w64}
 use mir.Val.{SFits, toZ, ofZ}
 use mir.ValLaws.{toZ-ofZ}
-use Rattle.refusal.specs.Answers.{Said, leaves}
+use Rattle.refusal.specs.Answers.{Said, accepted, refused, refusedAt, leaves}
 use Rattle.picture.specs.declared.Conversion.{Conversion}
-use Rattle.picture.specs.Convert.{convertSays, convertBytes}
+use Rattle.picture.specs.declared.Conversion.the-variants.{ToSrgb}
+use Rattle.picture.specs.Convert.{convertSays, convertBytes, clippedIn, convertClips}
 use Rattle.samples.specs.declared.Pixel.{Pixel}
 use Rattle.tint.specs.declared.Tint.{Tint}
 use Rattle.tint.specs.declared.Tint.the-variants.{Code}
 use Rattle.tint.specs.Tints as tint
 use Rattle.tint.specs.Tints.{TintSaid, refusesAt, tintPixel, tintSays}
 use Rattle.tint.proofs.Meaning.{pixel-given, code-given}
-use Rattle.kiosk.specs.Interface.{minus, answerOf, placeOf, Gives, Converts, answerOfOne, samplesOfOne, Tints}
+use Rattle.kiosk.specs.Interface.{minus, answerOf, placeOf, Gives, Converts, clipsAfter, answerOfOne, samplesOfOne, Tints}
 
 pub gives : {A : Type 0} (new dst : List A) (place : ℕ) {s says : Said} {r : ℤ} {dst′ : List A} {place′ : ℕ}
     → s ≡ says → dst′ ≡ leaves says new dst → r ≡ answerOf s → place′ ≡ placeOf s place → Gives says new r dst dst′ place place′
@@ -28,6 +29,16 @@ pub converts : (c : Conversion) (src dst : List ℕ) (place : ℕ) {s : Said} {r
     → s ≡ convertSays c src (length dst) → dst′ ≡ convertBytes c src dst → r ≡ answerOf s → place′ ≡ placeOf s place
     → Converts c src r dst dst′ place place′
 converts c src dst place e content answer at = gives _ dst place e content answer at
+
+-- Of the clipped pixels, C's variable gets what Convert counts, if it accepts.
+kept-once : (s : Said) (count held : ℕ) → leaves s (leaves s count 0) held ≡ leaves s count held
+kept-once (accepted n) count held = refl
+kept-once (refused k) count held = refl
+kept-once (refusedAt k at) count held = refl
+
+pub clips : (n : ℕ) (src : List ℕ) (room held : ℕ) {s : Said} {count r : ℕ}
+    → s ≡ convertSays (ToSrgb n) src room → count ≡ convertClips (ToSrgb n) src room → r ≡ leaves s count held → r ≡ clipsAfter n src room held
+clips n src room held {r = r} e f h = subst (λ (k : ℕ). r ≡ k) (kept-once (convertSays (ToSrgb n) src room) (clippedIn (ToSrgb n) src) held) (rw (e, f) at h)
 
 -- An answer that is handed on, in 64 bits.
 pub handed-on : {A : Type 0} {says : Said} {new dst dst′ : List A} {place place′ : ℕ} (r : ℤ)

@@ -12,7 +12,8 @@ use Rattle.samples.specs.Samples.{samplesIn}
 use Rattle.records.specs.Layout.{recordBytes}
 use Rattle.records.specs.Faults.{pixelBytes}
 use Rattle.picture.specs.declared.Conversion.{Conversion}
-use Rattle.picture.specs.Convert.{convertSays, converted}
+use Rattle.picture.specs.declared.Conversion.the-variants.{ToSrgb}
+use Rattle.picture.specs.Convert.{convertSays, converted, clippedIn}
 use Rattle.tint.specs.declared.Tint.{Tint}
 use Rattle.tint.specs.Tints.{TintSaid, gives, refusesAt, tintPixel, tintSays}
 use Rattle.spool.specs.Open.{OpenSaid, opens, refusesFile}
@@ -46,6 +47,10 @@ Converts c src r dst dst′ place place′ = Gives (convertSays c src (length ds
 -- The same of call k of several, whose answers and places are in arrays.
 abbrev pub ConvertsAt : ℕ → Conversion → List ℕ → List ℕ → List ℕ → List ℤ → List ℕ → List ℕ → Type 0
 ConvertsAt k c src dst dst′ answers places places′ = Converts c src (getD answers k (pos 0)) dst dst′ (getD places k 0) (getD places′ k 0)
+
+-- The clipped pixels that C's variable holds after e-sRGB to sRGB: if the call is refused, what it held before.
+abbrev pub clipsAfter : ℕ → List ℕ → ℕ → ℕ → ℕ
+clipsAfter n src room before = leaves (convertSays (ToSrgb n) src room) (clippedIn (ToSrgb n) src) before
 
 -- A count that a signed number of 64 bits holds.
 abbrev pub Countable : Said → Type 0

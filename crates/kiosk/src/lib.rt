@@ -1,6 +1,6 @@
 // The C interface: every operation of the library under a C name, over numbers and slices, for
 // include/kiosk.h. It promises that C gets exactly what the operation says, as a count or minus the
-// refusal's number, and exactly its bytes; it asks nothing of a caller that C's types do not say.
+// refusal's number, and exactly its bytes and counts; it asks nothing of a caller that C's types do not say.
 use frames::step_from;
 use layout::lay_out;
 use linear::code_to_light;
@@ -29,7 +29,7 @@ use tint::Tinted;
 use tint::to_pixel;
 ghost use mathlib.Core.Path.{_≡_};
 ghost use Prim.Native.Nat.{_≤_};
-ghost use lib.ListN.{length, take};
+ghost use lib.ListN.{length, getD, take};
 ghost use Rattle.refusal.specs.Refusals.{numberOf};
 ghost use Rattle.refusal.specs.Answers.{said, leaves};
 ghost use Rattle.linear.specs.Operations.{codesToLightSays, codesToLight, lightToCodesSays, lightToCodes};
@@ -40,7 +40,7 @@ ghost use Rattle.frames.specs.Walk.{nextNumber};
 ghost use Rattle.layout.specs.LayOut.{layoutSays, layoutBytes};
 ghost use Rattle.listing.specs.Text.{putText};
 ghost use Rattle.listing.specs.Listing.{listing};
-ghost use Rattle.kiosk.specs.Interface.{minus, answerOf, placeOf, Gives, Converts, ConvertsAt, Countable, Tints, samplesOfOne, openAnswer, openShop, openTable, findAnswer, findRecord};
+ghost use Rattle.kiosk.specs.Interface.{minus, answerOf, placeOf, Gives, Converts, ConvertsAt, clipsAfter, Countable, Tints, samplesOfOne, openAnswer, openShop, openTable, findAnswer, findRecord};
 
 // A refusal, as C gets it.
 fn refused(refusal: Refusal) -> i64
@@ -70,8 +70,20 @@ fn answered(answer: Answer, place: &mut usize) -> i64
 fn converted(conversion: Conversion, src: &[u8], dst: &mut [u8], place: &mut usize) -> i64
     ensures { λ r. ⌜ Converts conversion (now (src .entry)) r (now (dst .entry)) (now (dst .exit)) (now (place .entry)) (now (place .exit)) ⌝ }
 {
-    let answer = convert(conversion, src, dst);
+    let given = convert(conversion, src, dst);
+    let answer = given.answer;
     answered(answer, place)
+}
+
+// A count beside an answer: what C's variable held stays there if the answer is a refusal.
+fn counted(answer: Answer, count: usize, held: usize) -> usize
+    ensures { λ r. ⌜ r ≡ leaves (said answer) count held ⌝ }
+{
+    match answer {
+        Answer::Done(_) => count,
+        Answer::Refused(_) => held,
+        Answer::RefusedAt(_, _) => held,
+    }
 }
 
 // 8-bit sRGB to e-sRGB.
@@ -82,12 +94,22 @@ pub extern "C" fn kiosk_from_srgb(depth: u32, src: &[u8], dst: &mut [u8], place:
     converted(Conversion::FromSrgb { depth }, src, dst, place)
 }
 
-// E-sRGB to 8-bit sRGB.
+// E-sRGB to 8-bit sRGB, and how many pixels have a colour that sRGB cannot hold.
 #[no_mangle]
-pub extern "C" fn kiosk_to_srgb(depth: u32, src: &[u8], dst: &mut [u8], place: &mut usize) -> i64
-    ensures { λ r. ⌜ Converts (Conversion.ToSrgb depth) (now (src .entry)) r (now (dst .entry)) (now (dst .exit)) (now (place .entry)) (now (place .exit)) ⌝ }
+pub extern "C" fn kiosk_to_srgb(
+    depth: u32,
+    src: &[u8],
+    dst: &mut [u8],
+    place: &mut usize,
+    clipped: &mut usize,
+) -> i64
+    ensures gives { λ r. ⌜ Converts (Conversion.ToSrgb depth) (now (src .entry)) r (now (dst .entry)) (now (dst .exit)) (now (place .entry)) (now (place .exit)) ⌝ }
+    ensures clips { λ _. ⌜ now (clipped .exit) ≡ clipsAfter depth (now (src .entry)) (length (now (dst .entry))) (now (clipped .entry)) ⌝ }
 {
-    converted(Conversion::ToSrgb { depth }, src, dst, place)
+    let given = convert(Conversion::ToSrgb { depth }, src, dst);
+    let answer = given.answer;
+    *clipped = counted(answer, given.clipped, *clipped);
+    answered(answer, place)
 }
 
 // E-sRGB of one depth to another.
@@ -287,7 +309,8 @@ fn told(answer: Answer, place: usize) -> AnswerAndPlace
 }
 
 // Both runs of an sRGB picture (rule 5.2), five calls of Convert: to codes, those to luma and chroma and
-// back, then both pictures of codes to 8 bits. `answers` and `places` are filled in the order of the calls.
+// back, then both pictures of codes to 8 bits. `answers` and `places` are filled in the order of the calls, and
+// `clipped` in that of the last two.
 #[no_mangle]
 pub extern "C" fn kiosk_both_runs(
     depth: u32,
@@ -299,12 +322,15 @@ pub extern "C" fn kiosk_both_runs(
     round: &mut [u8],
     answers: &mut [i64; 5],
     places: &mut [usize; 5],
+    clipped: &mut [usize; 2],
 )
     ensures made { λ _. ⌜ ConvertsAt 0 (Conversion.FromSrgb depth) (now (picture .entry)) (now (codes .entry)) (now (codes .exit)) (now (answers .exit)) (now (places .entry)) (now (places .exit)) ⌝ }
     ensures there { λ _. ⌜ ConvertsAt 1 (Conversion.ToLumaChroma depth) (now (codes .exit)) (now (ycc .entry)) (now (ycc .exit)) (now (answers .exit)) (now (places .entry)) (now (places .exit)) ⌝ }
     ensures again { λ _. ⌜ ConvertsAt 2 (Conversion.FromLumaChroma depth) (now (ycc .exit)) (now (back .entry)) (now (back .exit)) (now (answers .exit)) (now (places .entry)) (now (places .exit)) ⌝ }
     ensures direct { λ _. ⌜ ConvertsAt 3 (Conversion.ToSrgb depth) (now (codes .exit)) (now (direct .entry)) (now (direct .exit)) (now (answers .exit)) (now (places .entry)) (now (places .exit)) ⌝ }
     ensures round { λ _. ⌜ ConvertsAt 4 (Conversion.ToSrgb depth) (now (back .exit)) (now (round .entry)) (now (round .exit)) (now (answers .exit)) (now (places .entry)) (now (places .exit)) ⌝ }
+    ensures direct_clips { λ _. ⌜ getD (now (clipped .exit)) 0 0 ≡ clipsAfter depth (now (codes .exit)) (length (now (direct .entry))) (getD (now (clipped .entry)) 0 0) ⌝ }
+    ensures round_clips { λ _. ⌜ getD (now (clipped .exit)) 1 0 ≡ clipsAfter depth (now (back .exit)) (length (now (round .entry))) (getD (now (clipped .entry)) 1 0) ⌝ }
 {
     let runs = both_runs(depth, picture, codes, ycc, back, direct, round);
     let before = *places;
@@ -312,12 +338,18 @@ pub extern "C" fn kiosk_both_runs(
     let there = runs.there;
     let again = runs.again;
     let straight = runs.direct;
+    let straight_answer = straight.answer;
     let around = runs.round;
+    let around_answer = around.answer;
+    let held = *clipped;
+    let f = counted(straight_answer, straight.clipped, held[0]);
+    let g = counted(around_answer, around.clipped, held[1]);
+    *clipped = [f, g];
     let a = told(made, before[0]);
     let b = told(there, before[1]);
     let c = told(again, before[2]);
-    let d = told(straight, before[3]);
-    let e = told(around, before[4]);
+    let d = told(straight_answer, before[3]);
+    let e = told(around_answer, before[4]);
     *answers = [a.answer, b.answer, c.answer, d.answer, e.answer];
     *places = [a.place, b.place, c.place, d.place, e.place];
 }

@@ -1,3 +1,4 @@
 pub mod Filling
 pub mod Planning
 pub mod Answering
+pub mod Narrowing

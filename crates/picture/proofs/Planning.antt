@@ -7,17 +7,20 @@ use mathlib.Core.Bool.{Bool, true, false}
 use mathlib.Core.List.{List, [], _∷_, map}
 use native.Mathlib.Omega.{arith}
 use lib.ListN.{length}
+use Rattle.numbers.specs.Counting.{howMany}
 use Rattle.numbers.proofs.Booleans.{and-right, and-same}
+use Rattle.numbers.proofs.Counting.{count-none}
+use Rattle.samples.specs.declared.Pixel.{Pixel}
 use Rattle.samples.specs.declared.Coding.{Coding}
 use Rattle.samples.specs.declared.Coding.the-variants.{Bytes, Codes}
-use Rattle.samples.specs.Samples.{place, pixelSize, samplesOf, sampleBytes, bytesOf, pixelsOf, samplesIn, read, write}
+use Rattle.samples.specs.Samples.{place, pixelSize, samplesOf, sampleBytes, bytesOf, noPixel, pixelsOf, samplesIn, read, write}
 use Rattle.samples.specs.Faults.{Exact}
 use Rattle.samples.proofs.Reading.{length-two}
 use Rattle.samples.proofs.Buffers.{length-read}
 use Rattle.esrgb.specs.declared.Depth.{Depth}
 use Rattle.esrgb.specs.declared.SampleRule.{SampleRule}
 use Rattle.esrgb.specs.Depths.{offered, bits, greatest}
-use Rattle.esrgb.specs.Codes.{fromSrgb, toSrgb, changeDepth}
+use Rattle.esrgb.specs.Codes.{fromSrgb, srgbValue, changeDepth}
 use Rattle.esrgb.specs.HowApplied.{applied, Computes, lineOf, changeOf}
 use Rattle.esrgb.proofs.Scale.{scale, offered-bits}
 use Rattle.esrgb.proofs.Rules.{from-srgb-computes, to-srgb-computes, change-computes}
@@ -28,7 +31,7 @@ use Rattle.picture.specs.declared.PixelRule.the-variants as rule
 use Rattle.picture.specs.declared.Work.{Work}
 use Rattle.picture.specs.declared.Work.the-variants.{Widen, Narrow, Change, Pixels}
 use Rattle.picture.specs.Forms.{codingOf}
-use Rattle.picture.specs.Convert.{each, source, offers, converted}
+use Rattle.picture.specs.Convert.{each, none, row, source, offers, converted}
 use Rattle.picture.specs.HowConverted.{doneBy, Plans}
 
 -- ---- lengths
@@ -78,6 +81,10 @@ by-pixels :
     → bytesOf to (map f (samplesOf from src)) ≡ write to (map (each f) (read from src))
 by-pixels from to f src h = ap (bytesOf to) (sym (each-sample f (samplesOf from src) (whole-samples from src h)))
 
+-- ---- clipped pixels: all conversions but one count none
+none-clipped : (ps : List Pixel) → howMany none ps ≡ 0
+none-clipped ps = count-none none ps noPixel (λ j h. refl)
+
 -- ---- the conversions, at depths that are offered
 module _ (d : Depth) where
   pub plan-from-srgb : Plans (FromSrgb (bits d)) Bytes (Widen (lineOf (bits d)))
@@ -88,6 +95,7 @@ module _ (d : Depth) where
     reads = refl;
     writes = refl;
     makes = λ src whole. same-samples true _ (fromSrgb (bits d)) src (from-srgb-computes (bits d)) ∙ by-pixels false true (fromSrgb (bits d)) src whole;
+    counts = λ src. sym (none-clipped (read false src));
   }
 
   pub plan-to-srgb : Plans (ToSrgb (bits d)) (Codes (greatest (bits d)) false) (Narrow d)
@@ -97,7 +105,8 @@ module _ (d : Depth) where
     coding-is = refl;
     reads = refl;
     writes = refl;
-    makes = λ src whole. same-samples false _ (toSrgb (bits d)) (samplesOf true src) (to-srgb-computes (bits d) (scale d)) ∙ by-pixels true false (toSrgb (bits d)) src whole;
+    makes = λ src whole. same-samples false _ (srgbValue (bits d)) (samplesOf true src) (to-srgb-computes (bits d) (scale d)) ∙ by-pixels true false (srgbValue (bits d)) src whole;
+    counts = λ src. refl;
   }
 
   pub plan-change : (to : Depth) → Plans (ChangeDepth (bits d) (bits to)) (Codes (greatest (bits d)) false) (Change (changeOf (bits d) (bits to)))
@@ -110,6 +119,7 @@ module _ (d : Depth) where
     makes = λ src whole.
         let computes = change-computes (bits d) (bits to) (scale d) (scale to) in
         same-samples true _ (changeDepth (bits d) (bits to)) (samplesOf true src) computes ∙ by-pixels true true (changeDepth (bits d) (bits to)) src whole;
+    counts = λ src. sym (none-clipped (read true src));
   }
 
 -- ---- the conversions of the rules for pixels, each offered where its depth is
@@ -121,8 +131,23 @@ offers-done rule.FromEsycc n = and-same (offered n)
 offers-done rule.ToSycc n = and-right (offered n)
 offers-done rule.FromSycc n = refl
 
+clips-done : (rule : PixelRule) (n : ℕ) → row (doneBy rule n) .clips ≡ none
+clips-done rule.ToLumaChroma n = refl
+clips-done rule.FromLumaChroma n = refl
+clips-done rule.ToEsycc n = refl
+clips-done rule.FromEsycc n = refl
+clips-done rule.ToSycc n = refl
+clips-done rule.FromSycc n = refl
+
 pub plan-pixels : (rule : PixelRule) (d : Depth) → Plans (doneBy rule (bits d)) (codingOf (source (doneBy rule (bits d)))) (Pixels rule d)
-plan-pixels rule d = record { offered = offers-done rule (bits d) ∙ offered-bits d; coding-is = refl; reads = refl; writes = refl; makes = λ src whole. refl }
+plan-pixels rule d = record {
+  offered = offers-done rule (bits d) ∙ offered-bits d;
+  coding-is = refl;
+  reads = refl;
+  writes = refl;
+  makes = λ src whole. refl;
+  counts = λ src. rw (clips-done rule (bits d)) (sym (none-clipped _));
+}
 
 -- ---- a conversion, a coding and a loop that are known by equations
 pub same-plan :

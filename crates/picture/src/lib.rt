@@ -1,11 +1,15 @@
-// Convert: pictures in byte buffers, from one form to another (rules, section 4). It promises the answer
-// and every byte for any buffers and any depths: a refused call changes nothing, and an accepted one
-// leaves the source's pixels, converted one by one.
+// Convert: pictures in byte buffers, from one form to another (rules, section 4). It promises the answer,
+// every byte and how many pixels sRGB clips, for any buffers and any depths: a refused call changes nothing,
+// and an accepted one leaves the source's pixels, converted one by one.
+use esrgb::Cut;
 use esrgb::Depth;
 use esrgb::DepthChange;
+use esrgb::Gamut;
 use esrgb::Line;
 use esrgb::Offer;
 use esrgb::SampleRule;
+use numbers::raised;
+use numbers::rank_of;
 use numbers::two_bytes;
 use refusal::Answer;
 use refusal::Refusal;
@@ -14,18 +18,19 @@ use samples::Pixel;
 ghost use mathlib.Core.Path.{_≡_};
 ghost use mathlib.Core.Bool.{true, false};
 ghost use mathlib.Core.List.{[], _∷_, _++_, map};
-ghost use Prim.Native.Nat.{_*_, _+_, _≤_};
+ghost use Prim.Native.Nat.{_*_, _+_, _≤_, min};
 ghost use lib.ListN.{length, take};
+ghost use Rattle.numbers.specs.Counting.{howMany};
 ghost use Rattle.refusal.specs.Answers.{said, leaves};
 ghost use Rattle.samples.specs.Samples.{place, samplesOf, sampleBytes, bytesOf, read, write};
 ghost use Rattle.samples.specs.Faults.{Exact, wideCoding, sourceSays};
 ghost use Rattle.esrgb.specs.Depths.{bits, greatest};
-ghost use Rattle.esrgb.specs.HowApplied.{applied, ruleOf, cutOf};
+ghost use Rattle.esrgb.specs.HowApplied.{applied, ruleOf, gamutOf};
 ghost use Rattle.lumachroma.specs.LumaChroma.{toLumaChroma, toRgb};
 ghost use Rattle.esycc.specs.Esycc.{toEsycc, fromEsycc};
 ghost use Rattle.esycc.specs.Sycc.{toSycc, fromSycc};
-ghost use Rattle.picture.specs.Convert.{needed, converted, convertSays, convertBytes};
-ghost use Rattle.picture.specs.HowConverted.{doneBy, pixelApplied, sidesOf, readsWide, writesWide, made, Planned};
+ghost use Rattle.picture.specs.Convert.{needed, converted, convertSays, convertBytes, clipped, convertClips};
+ghost use Rattle.picture.specs.HowConverted.{doneBy, pixelApplied, sidesOf, narrowed, blockSize, someOutside, pixelOutside, readsWide, writesWide, made, counted, Planned};
 
 // The conversions of rule 4.1. A depth may be any number; rule 1.1 says which are offered.
 pub enum Conversion {
@@ -86,26 +91,117 @@ fn fill_change(change: DepthChange, src: &[u8], dst: &mut [u8])
     }
 }
 
-// To sRGB. Each depth has a call of its own, and so a loop in which its numbers are constants: by a constant
-// shift a compiler packs 16 samples at once.
-fn fill_srgb(depth: Depth, src: &[u8], dst: &mut [u8])
+// ---- to sRGB, and how many pixels it clips
+
+// Writes samples as bytes of sRGB, and tells whether sRGB cannot hold one of them: what is kept is the greatest
+// that one is above the lowest code of sRGB.
+fn narrow_samples(cut: Cut, gamut: Gamut, src: &[u8], dst: &mut [u8]) -> bool
     requires { ⌜ length (now dst) ≡ length (samplesOf true (now src)) ⌝ }
-    ensures { λ _. ⌜ now (dst .exit) ≡ bytesOf false (map (applied (SampleRule.ToEight (cutOf (bits depth)))) (samplesOf true (now (src .entry)))) ⌝ }
+    ensures bytes { λ _. ⌜ now (dst .exit) ≡ bytesOf false (map (applied (SampleRule.ToEight cut)) (samplesOf true (now (src .entry)))) ⌝ }
+    ensures clips { λ r. ⌜ r ≡ someOutside gamut (samplesOf true (now (src .entry))) ⌝ }
+{
+    let end = samples::sample_count(true, src.len());
+    let mut top: i16 = -32768;
+    let mut k = 0;
+    while k < end {
+        let x = samples::sample(src, true, k);
+        put(dst, false, k, esrgb::apply(SampleRule::ToEight(cut), x));
+        top = raised(top, esrgb::above_lowest(gamut, x));
+        k += 1;
+    }
+    gamut.span < rank_of(top)
+}
+
+fn narrow_at(depth: Depth, src: &[u8], dst: &mut [u8]) -> bool
+    requires { ⌜ length (now dst) ≡ length (samplesOf true (now src)) ⌝ }
+    ensures bytes { λ _. ⌜ now (dst .exit) ≡ narrowed (bits depth) (now (src .entry)) ⌝ }
+    ensures clips { λ r. ⌜ r ≡ someOutside (gamutOf (bits depth)) (samplesOf true (now (src .entry))) ⌝ }
+{
+    narrow_samples(esrgb::cut_of(depth), esrgb::gamut_of(depth), src, dst)
+}
+
+// Each depth has a call of its own, and so a loop in which its numbers are constants: by a constant shift a
+// compiler packs 16 samples at once.
+fn narrow(depth: Depth, src: &[u8], dst: &mut [u8]) -> bool
+    requires { ⌜ length (now dst) ≡ length (samplesOf true (now src)) ⌝ }
+    ensures bytes { λ _. ⌜ now (dst .exit) ≡ narrowed (bits depth) (now (src .entry)) ⌝ }
+    ensures clips { λ r. ⌜ r ≡ someOutside (gamutOf (bits depth)) (samplesOf true (now (src .entry))) ⌝ }
 {
     match depth {
-        Depth::Ten => {
-            let cut = esrgb::cut_of(Depth::Ten);
-            fill_samples(SampleRule::ToEight(cut), true, false, src, dst);
-        }
-        Depth::Twelve => {
-            let cut = esrgb::cut_of(Depth::Twelve);
-            fill_samples(SampleRule::ToEight(cut), true, false, src, dst);
-        }
-        Depth::Sixteen => {
-            let cut = esrgb::cut_of(Depth::Sixteen);
-            fill_samples(SampleRule::ToEight(cut), true, false, src, dst);
-        }
+        Depth::Ten => narrow_at(Depth::Ten, src, dst),
+        Depth::Twelve => narrow_at(Depth::Twelve, src, dst),
+        Depth::Sixteen => narrow_at(Depth::Sixteen, src, dst),
     }
+}
+
+// Is one of a pixel's channels clipped? One answer for the three, with no branch between them.
+fn is_clipped(gamut: Gamut, p: Pixel) -> bool
+    ensures { λ r. ⌜ r ≡ pixelOutside gamut p ⌝ }
+{
+    esrgb::is_outside(gamut, p.first)
+        | esrgb::is_outside(gamut, p.second)
+        | esrgb::is_outside(gamut, p.third)
+}
+
+// How many pixels are brought to sRGB at a time. If none of them is clipped, they are not looked at again.
+const BLOCK: usize = 2048;
+
+// The clipped pixels of a block. A compiler counts several at once in 32 bits, and not in 64.
+fn count_clipped(gamut: Gamut, src: &[u8]) -> u32
+    requires { ⌜ length (read true (now src)) ≤ blockSize ⌝ }
+    ensures { λ r. ⌜ r ≡ howMany (pixelOutside gamut) (read true (now (src .entry))) ⌝ }
+{
+    let end = src.len() / samples::pixel_size(true);
+    let mut count = 0;
+    let mut j = 0;
+    while j < end {
+        let p = samples::pixel_at(src, true, j);
+        count += is_clipped(gamut, p) as u32;
+        j += 1;
+    }
+    count
+}
+
+// A block, and how many of its pixels are clipped.
+fn narrow_block(depth: Depth, src: &[u8], dst: &mut [u8]) -> usize
+    requires { ⌜ (length (now dst) ≡ length (samplesOf true (now src))) × (length (read true (now src)) ≤ blockSize) ⌝ }
+    ensures bytes { λ _. ⌜ now (dst .exit) ≡ narrowed (bits depth) (now (src .entry)) ⌝ }
+    ensures count { λ r. ⌜ r ≡ howMany (pixelOutside (gamutOf (bits depth))) (read true (now (src .entry))) ⌝ }
+{
+    if narrow(depth, src, dst) {
+        count_clipped(esrgb::gamut_of(depth), src) as usize
+    } else {
+        0
+    }
+}
+
+// The end of the block that starts at a pixel.
+fn block_end(start: usize, pixels: usize) -> usize
+    requires { ⌜ start ≤ pixels ⌝ }
+    ensures { λ r. ⌜ r ≡ min pixels (start + blockSize) ⌝ }
+{
+    if pixels - start < BLOCK {
+        pixels
+    } else {
+        start + BLOCK
+    }
+}
+
+fn fill_srgb(depth: Depth, src: &[u8], dst: &mut [u8]) -> usize
+    requires { ⌜ Exact true false (length (now src)) (length (now dst)) ⌝ }
+    ensures bytes { λ _. ⌜ now (dst .exit) ≡ narrowed (bits depth) (now (src .entry)) ⌝ }
+    ensures count { λ r. ⌜ r ≡ howMany (clipped (bits depth)) (read true (now (src .entry))) ⌝ }
+{
+    let pixels = src.len() / samples::pixel_size(true);
+    let mut count = 0;
+    let mut start = 0;
+    while start < pixels {
+        let end = block_end(start, pixels);
+        let block = &src[6 * start..6 * end];
+        count += narrow_block(depth, block, &mut dst[3 * start..3 * end]);
+        start = end;
+    }
+    count
 }
 
 // ---- the loop over pixels
@@ -401,53 +497,67 @@ fn planned(conversion: Conversion) -> Plan
 
 // ---- Convert
 
-// Writes every pixel of the source, converted.
-fn fill(work: Work, src: &[u8], dst: &mut [u8])
+// Writes every pixel of the source, converted, and counts those that it clips.
+fn fill(work: Work, src: &[u8], dst: &mut [u8]) -> usize
     requires { ⌜ Exact (readsWide work) (writesWide work) (length (now src)) (length (now dst)) ⌝ }
-    ensures { λ _. ⌜ now (dst .exit) ≡ made work (now (src .entry)) ⌝ }
+    ensures bytes { λ _. ⌜ now (dst .exit) ≡ made work (now (src .entry)) ⌝ }
+    ensures count { λ r. ⌜ r ≡ counted work (now (src .entry)) ⌝ }
 {
     match work {
         Work::Widen(line) => {
             fill_samples(SampleRule::Affine(line), false, true, src, dst);
+            0
         }
-        Work::Narrow(depth) => {
-            fill_srgb(depth, src, dst);
-        }
+        Work::Narrow(depth) => fill_srgb(depth, src, dst),
         Work::Change(change) => {
             fill_change(change, src, dst);
+            0
         }
         Work::Pixels(rule, depth) => {
             fill_by_rule(rule, depth, src, dst);
+            0
         }
     }
 }
 
+// What Convert gives: its answer and, of e-sRGB to sRGB, how many pixels have a colour that sRGB cannot hold
+// (rule 4.6). It is 0 of every other conversion, and if the call is refused.
+pub struct Converted {
+    pub answer: Answer,
+    pub clipped: usize,
+}
+
 // A conversion whose depths are offered: judged first, and then written.
-fn run(coding: Coding, work: Work, src: &[u8], dst: &mut [u8]) -> Answer
+fn run(coding: Coding, work: Work, src: &[u8], dst: &mut [u8]) -> Converted
     requires { ⌜ wideCoding coding ≡ readsWide work ⌝ }
-    ensures answer { λ r. ⌜ said r ≡ sourceSays true coding (writesWide work) (now (src .entry)) (length (now (dst .entry))) ⌝ }
+    ensures answer { λ r. ⌜ said (r .answer) ≡ sourceSays true coding (writesWide work) (now (src .entry)) (length (now (dst .entry))) ⌝ }
     ensures bytes { λ _. ⌜ now (dst .exit) ≡ leaves (sourceSays true coding (writesWide work) (now (src .entry)) (length (now (dst .entry)))) (made work (now (src .entry))) (now (dst .entry)) ⌝ }
+    ensures clips { λ r. ⌜ r .clipped ≡ leaves (sourceSays true coding (writesWide work) (now (src .entry)) (length (now (dst .entry)))) (counted work (now (src .entry))) 0 ⌝ }
 {
     let answer = samples::examine(coding, writes_wide(work), src, dst.len());
     match answer {
         Answer::Done(_) => {
-            fill(work, src, dst);
-            answer
+            let clipped = fill(work, src, dst);
+            Converted { answer, clipped }
         }
-        Answer::Refused(_) => answer,
-        Answer::RefusedAt(_, _) => answer,
+        Answer::Refused(_) => Converted { answer, clipped: 0 },
+        Answer::RefusedAt(_, _) => Converted { answer, clipped: 0 },
     }
 }
 
 // Converts the picture src into dst, or refuses and leaves dst as it was. Every sample is judged before a
 // byte is written.
-pub fn convert(conversion: Conversion, src: &[u8], dst: &mut [u8]) -> Answer
-    ensures answer { λ r. ⌜ said r ≡ convertSays conversion (now (src .entry)) (length (now (dst .entry))) ⌝ }
+pub fn convert(conversion: Conversion, src: &[u8], dst: &mut [u8]) -> Converted
+    ensures answer { λ r. ⌜ said (r .answer) ≡ convertSays conversion (now (src .entry)) (length (now (dst .entry))) ⌝ }
     ensures bytes { λ _. ⌜ now (dst .exit) ≡ convertBytes conversion (now (src .entry)) (now (dst .entry)) ⌝ }
+    ensures clips { λ r. ⌜ r .clipped ≡ convertClips conversion (now (src .entry)) (length (now (dst .entry))) ⌝ }
 {
     let plan = planned(conversion);
     match plan {
         Plan::Run(coding, work) => run(coding, work, src, dst),
-        Plan::NotOffered => Answer::Refused(Refusal::DepthNotOffered),
+        Plan::NotOffered => Converted {
+            answer: Answer::Refused(Refusal::DepthNotOffered),
+            clipped: 0,
+        },
     }
 }

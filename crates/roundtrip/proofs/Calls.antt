@@ -20,9 +20,9 @@ use Rattle.esrgb.proofs.Eight.{from-srgb-code, to-srgb-byte}
 use Rattle.picture.specs.declared.Conversion.{Conversion}
 use Rattle.picture.specs.declared.Conversion.the-variants.{FromSrgb, ToSrgb, ToLumaChroma, FromLumaChroma}
 use Rattle.picture.specs.Forms.{Form, srgb, esrgb, lumaChroma, bitsOf, codingOf, wideForm, pixelsIn, offersForm}
-use Rattle.picture.specs.Convert.{source, target, pixelOf, needed, converted}
+use Rattle.picture.specs.Convert.{source, target, pixelOf, needed, converted, clippedIn}
 use Rattle.roundtrip.specs.Pictures.{first, second, third, pixelAt, Picture}
-use Rattle.roundtrip.specs.Calls.{Call}
+use Rattle.roundtrip.specs.Calls.{Call, Clips}
 use Rattle.roundtrip.proofs.Pixel.{Codes, channel-of-each, ycc-codes, ycc-chroma, back-codes}
 
 -- A picture with no sample at fault: of luma and chroma, no chroma is 0 either.
@@ -119,6 +119,12 @@ module _ {n : ℕ} (o : offered n ≡ true) {src before after : List ℕ} {answe
 
   pub from-ycc : Sound (lumaChroma n) src → Call (FromLumaChroma n) src before after answer → Went (FromLumaChroma n) src after answer
   from-ycc s = goes o o (two-bytes n o) s (λ j h. back-codes n (scale-of n o) _)
+
+-- An accepted call to sRGB gives the clipped pixels of its source.
+pub clips-given :
+    {n count clipped : ℕ} {src before after : List ℕ} {answer : Said} → Call (ToSrgb n) src before after answer → answer ≡ accepted count
+    → Clips n src before clipped → clipped ≡ clippedIn (ToSrgb n) src
+clips-given {n} {src = src} call accepts clips = clips ∙ ap (λ a. leaves a (clippedIn (ToSrgb n) src) 0) (sym (call .called .says) ∙ accepts)
 
 -- No stored chroma is 0 (rule 2.4), so luma and chroma can be read back.
 pub ycc-sound :

@@ -7,7 +7,7 @@ use native.Mathlib.Decide.{decLt}
 use Rattle.samples.specs.declared.Pixel.{Pixel}
 use Rattle.samples.specs.Samples.{pixel}
 use Rattle.esrgb.specs.Depths.{step}
-use Rattle.esrgb.specs.Codes.{fromSrgb, toSrgb}
+use Rattle.esrgb.specs.Codes.{fromSrgb, srgbValue}
 use Rattle.esrgb.proofs.Scale.{Scale}
 use Rattle.esrgb.proofs.Eight.{from-srgb-next, to-srgb-nearest}
 use Rattle.lumachroma.specs.Near.{Near}
@@ -69,18 +69,18 @@ module _ (n : ℕ) (s : Scale n) (p : Pixel) (h : Codes n p) where
 
 -- ---- the round trip's codes, to 8 bits: b is within one of the code of a
 module _ (n a b : ℕ) (s : Scale n) (h : a < 256) (near-code : Near (fromSrgb n a) b) where
-  pub near-exact : 2 < step n → toSrgb n b ≡ a
+  pub near-exact : 2 < step n → srgbValue n b ≡ a
   near-exact k = omega (arith, to-srgb-nearest n a b s (omega arith) (omega arith))
 
   -- A step of 2 codes makes one code more a tie, which goes upward.
-  pub one-greater : step n ≡ 2 → OneGreater a (fromSrgb n a) b (toSrgb n b)
+  pub one-greater : step n ≡ 2 → OneGreater a (fromSrgb n a) b (srgbValue n b)
   one-greater k =
       elim (decLt (fromSrgb n a) b) [
         | yes above ↦
             let next : fromSrgb n (a + 1) ≡ fromSrgb n a + step n = from-srgb-next n a in
-            let x : toSrgb n b ≡ min 255 (a + 1) = to-srgb-nearest n (a + 1) b s (omega arith) (omega arith) in
+            let x : srgbValue n b ≡ min 255 (a + 1) = to-srgb-nearest n (a + 1) b s (omega arith) (omega arith) in
             omega arith
         | no not-above ↦
-            let x : toSrgb n b ≡ min 255 a = to-srgb-nearest n a b s (omega arith) (omega arith) in
+            let x : srgbValue n b ≡ min 255 a = to-srgb-nearest n a b s (omega arith) (omega arith) in
             omega arith
       ]

@@ -10,7 +10,7 @@ use Rattle.samples.proofs.Reading.{pixel-at}
 use Rattle.picture.specs.declared.Conversion.the-variants.{FromSrgb, ToSrgb, ToLumaChroma, FromLumaChroma}
 use Rattle.picture.specs.Forms.{srgb}
 use Rattle.roundtrip.specs.Pictures.{Channel, first, second, third, channel, pixelAt, Picture}
-use Rattle.roundtrip.specs.Calls.{Called}
+use Rattle.roundtrip.specs.Calls.{Called, Clips}
 use Rattle.roundtrip.specs.Programs.{Trip, BothRuns}
 use Rattle.roundtrip.proofs.Demand.{demand3}
 
@@ -42,21 +42,25 @@ picture-of bytes byte whole = record {
 }
 
 pub both-runs :
-    {n : ℕ} {picture b₀ codes b₁ ycc b₂ back b₃ direct b₄ round : List ℕ} {a₀ a₁ a₂ a₃ a₄ : Said}
+    {n : ℕ} {picture b₀ codes b₁ ycc b₂ back b₃ direct b₄ round : List ℕ} {a₀ a₁ a₂ a₃ a₄ : Said} {k₃ k₄ : ℕ}
     → ((i : ℕ) → getD picture i 0 < 256) → length codes ≡ length b₀ → length ycc ≡ length b₁ → length back ≡ length b₂
     → Called (FromSrgb n) picture b₀ codes a₀ → Trip n codes b₁ ycc b₂ back a₁ a₂
-    → Called (ToSrgb n) codes b₃ direct a₃ → Called (ToSrgb n) back b₄ round a₄
-    → BothRuns n picture b₀ codes b₁ ycc b₂ back b₃ direct b₄ round a₀ a₁ a₂ a₃ a₄
-both-runs {picture = picture} byte k₀ k₁ k₂ made trip direct-back round-back = record {
+    → Called (ToSrgb n) codes b₃ direct a₃ → Clips n codes b₃ k₃ → Called (ToSrgb n) back b₄ round a₄ → Clips n back b₄ k₄
+    → BothRuns n picture b₀ codes b₁ ycc b₂ back b₃ direct b₄ round a₀ a₁ a₂ a₃ a₄ k₃ k₄
+both-runs {picture = picture} byte l₀ l₁ l₂ made trip direct-back direct-clips round-back round-clips = record {
   made = made;
   trip = trip;
   direct-back = direct-back;
+  direct-clips = direct-clips;
   round-back = round-back;
+  round-clips = round-clips;
   agrees = λ offered whole rooms.
-      demand3 .of-srgb _ offered _ _ _ _ _ _ _ _ _ _ _ _ _ _ _ _ (picture-of picture byte whole)
+      demand3 .of-srgb _ offered _ _ _ _ _ _ _ _ _ _ _ _ _ _ _ _ _ _ (picture-of picture byte whole)
       (record { room = omega (arith, rooms); called = made })
       (record { room = omega (arith, rooms); called = trip .there })
       (record { room = omega (arith, rooms); called = trip .again })
       (record { room = omega (arith, rooms); called = direct-back })
-      (record { room = omega (arith, rooms); called = round-back });
+      direct-clips
+      (record { room = omega (arith, rooms); called = round-back })
+      round-clips;
 }

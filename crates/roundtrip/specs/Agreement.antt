@@ -13,8 +13,9 @@ use Rattle.esrgb.specs.Depths.{offered, middle}
 use Rattle.lumachroma.specs.Near.{Near}
 use Rattle.picture.specs.declared.Conversion.the-variants.{FromSrgb, ToSrgb, ToLumaChroma, FromLumaChroma}
 use Rattle.picture.specs.Forms.{srgb, esrgb, lumaChroma, pixelsIn}
+use Rattle.picture.specs.Convert.{clippedIn}
 use Rattle.roundtrip.specs.Pictures.{Channel, channel, pixelAt, Picture}
-use Rattle.roundtrip.specs.Calls.{Call}
+use Rattle.roundtrip.specs.Calls.{Call, Clips}
 
 -- Rule 5.1, of a pixel of codes e, its luma and chroma s, and what comes back, b.
 pub record Kept (n : ℕ) (e s b : Pixel) : Type 0 where
@@ -36,13 +37,16 @@ pub record OneGreater (a e b x : ℕ) : Type 0 where
   pub most : x ≤ a + 1
   pub greater : x ≡ a + 1 ↔ ((b ≡ e + 1) × (a < 255))
 
--- Rule 5.2, of an sRGB picture: both pictures of codes brought back to 8 bits, the answers of those calls and of the first. That the
--- picture of codes has as many pixels makes the round trip's answers the sRGB picture's count too.
-pub record BackToEight (n : ℕ) (picture codes back codes₈ back₈ : List ℕ) (made-says codes-says back-says : Said) : Type 0 where
+-- Rule 5.2, of an sRGB picture: both pictures of codes brought back to 8 bits, the answers of those calls and of the first, and the clipped
+-- pixels that they count. That the picture of codes has as many pixels makes the round trip's answers the sRGB picture's count too.
+pub record BackToEight
+    (n : ℕ) (picture codes back codes₈ back₈ : List ℕ) (made-says codes-says back-says : Said) (codes-clips back-clips : ℕ) : Type 0 where
   pub count : pixelsIn (esrgb n) codes ≡ pixelsIn srgb picture
   pub made : made-says ≡ accepted (pixelsIn srgb picture)
   pub codes-back : codes-says ≡ accepted (pixelsIn srgb picture)
   pub trip-back : back-says ≡ accepted (pixelsIn srgb picture)
+  pub codes-clipped : codes-clips ≡ 0
+  pub trip-clipped : back-clips ≡ clippedIn (ToSrgb n) back
   pub codes-exact : codes₈ ≡ picture
   pub size : length back₈ ≡ length picture
   pub trip-exact : 12 ≤ n → back₈ ≡ picture
@@ -63,11 +67,11 @@ pub record Demand3 : Type 0 where
       → RoundTrip n codes ycc back a₁ a₂
   pub of-srgb :
       (n : ℕ) → offered n ≡ true
-      → (picture b₀ codes b₁ ycc b₂ back b₃ codes₈ b₄ back₈ : List ℕ) (a₀ a₁ a₂ a₃ a₄ : Said)
+      → (picture b₀ codes b₁ ycc b₂ back b₃ codes₈ b₄ back₈ : List ℕ) (a₀ a₁ a₂ a₃ a₄ : Said) (k₃ k₄ : ℕ)
       → Picture srgb picture
       → Call (FromSrgb n) picture b₀ codes a₀
       → Call (ToLumaChroma n) codes b₁ ycc a₁
       → Call (FromLumaChroma n) ycc b₂ back a₂
-      → Call (ToSrgb n) codes b₃ codes₈ a₃
-      → Call (ToSrgb n) back b₄ back₈ a₄
-      → Picture (esrgb n) codes × RoundTrip n codes ycc back a₁ a₂ × BackToEight n picture codes back codes₈ back₈ a₀ a₃ a₄
+      → Call (ToSrgb n) codes b₃ codes₈ a₃ → Clips n codes b₃ k₃
+      → Call (ToSrgb n) back b₄ back₈ a₄ → Clips n back b₄ k₄
+      → Picture (esrgb n) codes × RoundTrip n codes ycc back a₁ a₂ × BackToEight n picture codes back codes₈ back₈ a₀ a₃ a₄ k₃ k₄

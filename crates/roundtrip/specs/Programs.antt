@@ -11,7 +11,7 @@ use Rattle.esrgb.specs.Depths.{offered}
 use Rattle.picture.specs.declared.Conversion.the-variants.{FromSrgb, ToSrgb, ToLumaChroma, FromLumaChroma}
 use Rattle.picture.specs.Forms.{esrgb}
 use Rattle.roundtrip.specs.Pictures.{Picture}
-use Rattle.roundtrip.specs.Calls.{Called}
+use Rattle.roundtrip.specs.Calls.{Called, Clips}
 use Rattle.roundtrip.specs.Agreement.{RoundTrip, BackToEight}
 
 -- A picture of codes through luma and chroma and back. The destinations held b₁ and b₂ before.
@@ -30,12 +30,14 @@ pub record Rooms (picture b₀ b₁ b₂ b₃ b₄ : List ℕ) : Type 0 where
   pub round : length b₄ ≡ length picture
 
 -- An sRGB picture to codes, the codes through luma and chroma and back, and both brought to 8 bits: `direct` from the codes, `round` from
--- what the round trip brought back. Whole pixels of any bytes are an sRGB picture.
-pub record BothRuns (n : ℕ) (picture b₀ codes b₁ ycc b₂ back b₃ direct b₄ round : List ℕ) (a₀ a₁ a₂ a₃ a₄ : Said) : Type 0 where
+-- what the round trip brought back, each with the clipped pixels that it counts. Whole pixels of any bytes are an sRGB picture.
+pub record BothRuns (n : ℕ) (picture b₀ codes b₁ ycc b₂ back b₃ direct b₄ round : List ℕ) (a₀ a₁ a₂ a₃ a₄ : Said) (k₃ k₄ : ℕ) : Type 0 where
   pub made : Called (FromSrgb n) picture b₀ codes a₀
   pub trip : Trip n codes b₁ ycc b₂ back a₁ a₂
   pub direct-back : Called (ToSrgb n) codes b₃ direct a₃
+  pub direct-clips : Clips n codes b₃ k₃
   pub round-back : Called (ToSrgb n) back b₄ round a₄
+  pub round-clips : Clips n back b₄ k₄
   pub agrees :
       offered n ≡ true → length picture % 3 ≡ 0 → Rooms picture b₀ b₁ b₂ b₃ b₄
-      → Picture (esrgb n) codes × RoundTrip n codes ycc back a₁ a₂ × BackToEight n picture codes back direct round a₀ a₃ a₄
+      → Picture (esrgb n) codes × RoundTrip n codes ycc back a₁ a₂ × BackToEight n picture codes back direct round a₀ a₃ a₄ k₃ k₄

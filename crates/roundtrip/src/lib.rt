@@ -3,6 +3,7 @@
 // `proofs/Demand.antt` proves it. The two functions here make those calls, in buffers that the caller
 // lends, and promise the same.
 use picture::Conversion;
+use picture::Converted;
 use refusal::Answer;
 ghost use Rattle.refusal.specs.Answers.{said};
 ghost use Rattle.roundtrip.specs.Programs.{Trip, BothRuns};
@@ -18,18 +19,18 @@ pub struct TripAnswers {
 pub fn round_trip(depth: u32, codes: &[u8], ycc: &mut [u8], back: &mut [u8]) -> TripAnswers
     ensures { λ r. ⌜ Trip depth (now (codes .entry)) (now (ycc .entry)) (now (ycc .exit)) (now (back .entry)) (now (back .exit)) (said (r .there)) (said (r .again)) ⌝ }
 {
-    let there = picture::convert(Conversion::ToLumaChroma { depth }, codes, ycc);
-    let again = picture::convert(Conversion::FromLumaChroma { depth }, ycc, back);
+    let there = picture::convert(Conversion::ToLumaChroma { depth }, codes, ycc).answer;
+    let again = picture::convert(Conversion::FromLumaChroma { depth }, ycc, back).answer;
     TripAnswers { there, again }
 }
 
-// The answers of the five calls, in their order.
+// What the five calls give, in their order. Those to sRGB also count the pixels that they clip.
 pub struct RunAnswers {
     pub made: Answer,
     pub there: Answer,
     pub again: Answer,
-    pub direct: Answer,
-    pub round: Answer,
+    pub direct: Converted,
+    pub round: Converted,
 }
 
 // Both runs of an sRGB picture: to codes, the codes through luma and chroma and back, and then to 8 bits
@@ -43,9 +44,9 @@ pub fn both_runs(
     direct: &mut [u8],
     round: &mut [u8],
 ) -> RunAnswers
-    ensures { λ r. ⌜ BothRuns depth (now (picture .entry)) (now (codes .entry)) (now (codes .exit)) (now (ycc .entry)) (now (ycc .exit)) (now (back .entry)) (now (back .exit)) (now (direct .entry)) (now (direct .exit)) (now (round .entry)) (now (round .exit)) (said (r .made)) (said (r .there)) (said (r .again)) (said (r .direct)) (said (r .round)) ⌝ }
+    ensures { λ r. ⌜ BothRuns depth (now (picture .entry)) (now (codes .entry)) (now (codes .exit)) (now (ycc .entry)) (now (ycc .exit)) (now (back .entry)) (now (back .exit)) (now (direct .entry)) (now (direct .exit)) (now (round .entry)) (now (round .exit)) (said (r .made)) (said (r .there)) (said (r .again)) (said (r .direct .answer)) (said (r .round .answer)) (r .direct .clipped) (r .round .clipped) ⌝ }
 {
-    let made = picture::convert(Conversion::FromSrgb { depth }, picture, codes);
+    let made = picture::convert(Conversion::FromSrgb { depth }, picture, codes).answer;
     let trip = round_trip(depth, codes, ycc, back);
     let there = trip.there;
     let again = trip.again;

@@ -1,6 +1,6 @@
-// Runs the examples of rules 10.6 and 10.7, both runs of the blue of rule 10.5 and a walk over the sample
-// file, and prints what the library gives. `stdout` beside this has what the second implementation gives
-// for them: see rust/reference, whose program of the same name prints it.
+// Runs the examples of rules 10.6 and 10.7, codes next to black and white, both runs of the blue of rule 10.5
+// and a walk over the sample file, and prints what the library gives. `stdout` beside this has what the second
+// implementation gives for them: see rust/reference, whose program of the same name prints it.
 use libc::STDOUT_FILENO;
 use linear::CodeFound;
 use picture::Conversion;
@@ -31,6 +31,19 @@ fn depth_row(from: u32, to: u32, low: u8, high: u8) {
     show(to as u64);
     show(numbers::from_two(low, high) as u64);
     show(numbers::from_two(dst[0], dst[1]) as u64);
+    end_line();
+}
+
+// A code brought to sRGB, and 1 if sRGB cannot hold it.
+fn srgb_row(depth: u32, low: u8, high: u8) {
+    let src = [low, high, low, high, low, high];
+    let mut dst = [0u8; 3];
+    let given = picture::convert(Conversion::ToSrgb { depth }, &src, &mut dst);
+    io::write_all(STDOUT_FILENO, b"srgb");
+    show(depth as u64);
+    show(numbers::from_two(low, high) as u64);
+    show_byte(dst[0]);
+    show(given.clipped as u64);
     end_line();
 }
 
@@ -228,6 +241,18 @@ fn main() {
     depth_row(12, 10, 255, 15);
     depth_row(16, 10, 255, 255);
     depth_row(16, 12, 255, 255);
+    srgb_row(10, 127, 1);
+    srgb_row(10, 128, 1);
+    srgb_row(10, 126, 3);
+    srgb_row(10, 127, 3);
+    srgb_row(12, 255, 5);
+    srgb_row(12, 0, 6);
+    srgb_row(12, 248, 13);
+    srgb_row(12, 249, 13);
+    srgb_row(16, 255, 95);
+    srgb_row(16, 0, 96);
+    srgb_row(16, 128, 223);
+    srgb_row(16, 129, 223);
     runs_row(10);
     runs_row(12);
     width_row(0, 32);

@@ -1,4 +1,4 @@
--- `kiosk::converted` meets its contract: Convert's two clauses, and what C gets of its answer.
+-- `kiosk::converted` meets its contract: Convert's clauses, and what C gets of its answer.
 -- Assumes nothing.
 use mathlib.Core.Path.{sym, subst, _∙_}
 use native.Mathlib.Omega.{arith}
@@ -28,7 +28,7 @@ returns : tie.Need-returns
 returns c =
     let start = c .before .before .before .before .before .before .before .before in
     let done = c .before .before .before .before .convert .ensures in
-    converts (start .args .conversion) (now (start .args .src)) (now (start .args .dst)) (now (start .args .place)) (done .0) (done .1)
+    converts (start .args .conversion) (now (start .args .src)) (now (start .args .dst)) (now (start .args .place)) (done .0) (done .1 .0)
     (toZ-ofZ _ _ (record { sfits = c .answered .ok }) ∙ c .answered .ensures .0) (c .answered .ensures .1)
 
 pub converted-spec : {M : Type 1} → statement M

@@ -1,4 +1,4 @@
--- `kiosk::kiosk_both_runs` meets its contract: five calls of Convert, and what C gets of their answers.
+-- `kiosk::kiosk_both_runs` meets its contract: five calls of Convert, and what C gets of their answers and counts.
 -- Assumes nothing.
 use mathlib.Core.Path.{sym, subst, _∙_}
 use Prim.Native.Nat.{_<_, _^_}
@@ -8,21 +8,36 @@ use lib.ListN.{length, getD}
 use mir.ValLaws.{toZ-ofZ}
 use Rattle.picture.specs.declared.Conversion.the-variants.{FromSrgb, ToSrgb, ToLumaChroma, FromLumaChroma}
 use Rattle.kiosk.specs.Interface.{Countable}
-use Rattle.kiosk.proofs.Giving.{converts}
+use Rattle.kiosk.proofs.Giving.{converts, clips}
 use Rattle.kiosk.proofs.Counts.{convert-counts}
 use borrow.Author.Needs.{needs}
 use Rattle.kiosk.proofs.kiosk_both_runs.Statement.{statement}
 use Rattle.kiosk.proofs.kiosk_both_runs.Tie as tie
 
--- where the calls are made, seen from where their answers are told; and the start
-abbrev calls : tie.After-before2 → tie.After-both-runs
-calls c = c .before .before .before .before .before .before .before .before .before .before .before
+-- where the calls are made, seen from where their answers are told; where that begins, seen from the end; and the start
+abbrev calls : tie.After-clipped → tie.After-both-runs
+calls c = c .before .before .before .before .before .before .before .before .before .before .before .before .before .before .before .before .before
+
+abbrev counted : tie.After-places → tie.After-clipped
+counted c = c .before .before .before .before .before .before .before .before .before .before .before .before
 
 abbrev start : tie.After-both-runs → tie.Start
 start c = c .before .before .before .before .before .before .before .before .before .before .before .before
 
 both-runs-requires : tie.Need-both-runs-requires
 both-runs-requires c κs = search needs
+
+array-read-counted : tie.Need-array-read-counted
+array-read-counted c = search needs
+
+counted-requires : tie.Need-counted-requires
+counted-requires c κs = search needs
+
+array-read-counted-2 : tie.Need-array-read-counted-2
+array-read-counted-2 c = search needs
+
+counted-requires-2 : tie.Need-counted-requires-2
+counted-requires-2 c κs = search needs
 
 array-read-told : tie.Need-array-read-told
 array-read-told c = search needs
@@ -80,23 +95,24 @@ told-requires-5 c κs =
     subst Countable (sym (r .ensures .round-back .says)) (convert-counts (ToSrgb (s .args .depth)) (r .last .1 .1 .1 .1 .0) (length (now (s .args .round))) long)
 
 same-length : tie.Need-same-length
-same-length c = calls (c .before .before .before .before .before .before .before .before .before .before .before .before) .both-runs .kept .1 .1 .0
+same-length c = calls (counted c) .both-runs .kept .1 .1 .0
 
 same-length-2 : tie.Need-same-length-2
-same-length-2 c = calls (c .before .before .before .before .before .before .before .before .before .before .before .before) .both-runs .kept .1 .1 .1 .0
+same-length-2 c = calls (counted c) .both-runs .kept .1 .1 .1 .0
 
 same-length-3 : tie.Need-same-length-3
-same-length-3 c = calls (c .before .before .before .before .before .before .before .before .before .before .before .before) .both-runs .kept .1 .1 .1 .1 .0
+same-length-3 c = calls (counted c) .both-runs .kept .1 .1 .1 .1 .0
 
 same-length-4 : tie.Need-same-length-4
-same-length-4 c = search needs
+same-length-4 c = calls (counted c) .both-runs .kept .1 .1 .1 .1 .1 .0
 
 same-length-5 : tie.Need-same-length-5
-same-length-5 c = search needs
+same-length-5 c = calls (counted c) .both-runs .kept .1 .1 .1 .1 .1 .1 .0
 
 returns : tie.Need-returns
 returns c =
-    let a = calls (c .before .before .before .before .before .before .before .before .before .before .before .before) in
+    let k = counted c in
+    let a = calls k in
     let s = start a in
     let r = a .both-runs in
     let t0 = c .before .before .before .before .before .before .before .before .before .before .before .told in
@@ -111,7 +127,13 @@ returns c =
           converts (FromLumaChroma (s .args .depth)) _ (now (s .args .back)) (getD (now (s .args .places)) 2 0) (r .ensures .trip .again .says) (r .ensures .trip .again .bytes) (toZ-ofZ _ _ (record { sfits = c .before .before .before .before .struct-told3 .given .0 .1 }) ∙ t2 .ensures .0) (t2 .ensures .1),
           (
             converts (ToSrgb (s .args .depth)) _ (now (s .args .direct)) (getD (now (s .args .places)) 3 0) (r .ensures .direct-back .says) (r .ensures .direct-back .bytes) (toZ-ofZ _ _ (record { sfits = c .before .before .before .struct-told4 .given .0 .1 }) ∙ t3 .ensures .0) (t3 .ensures .1),
-            converts (ToSrgb (s .args .depth)) _ (now (s .args .round)) (getD (now (s .args .places)) 4 0) (r .ensures .round-back .says) (r .ensures .round-back .bytes) (toZ-ofZ _ _ (record { sfits = c .before .before .struct-told5 .given .0 .1 }) ∙ t4 .ensures .0) (t4 .ensures .1),
+            (
+              converts (ToSrgb (s .args .depth)) _ (now (s .args .round)) (getD (now (s .args .places)) 4 0) (r .ensures .round-back .says) (r .ensures .round-back .bytes) (toZ-ofZ _ _ (record { sfits = c .before .before .struct-told5 .given .0 .1 }) ∙ t4 .ensures .0) (t4 .ensures .1),
+              (
+                clips (s .args .depth) _ (length (now (s .args .direct))) (getD (now (s .args .clipped)) 0 0) (r .ensures .direct-back .says) (r .ensures .direct-clips) (k .before .before .counted .ensures),
+                clips (s .args .depth) _ (length (now (s .args .round))) (getD (now (s .args .clipped)) 1 0) (r .ensures .round-back .says) (r .ensures .round-clips) (k .before .counted2 .ensures),
+              ),
+            ),
           ),
         ),
       ),
@@ -122,6 +144,10 @@ kiosk-both-runs-spec =
     tie.close
     (tie.spec
     both-runs-requires
+    array-read-counted
+    counted-requires
+    array-read-counted-2
+    counted-requires-2
     array-read-told
     told-requires
     array-read-told-2

@@ -1,12 +1,14 @@
 -- `picture::fill` meets its contract: each arm runs its loop, and the lengths fit it.
 -- Assumes nothing.
-use mathlib.Core.Path.{_≡_, sym, ap, subst, _∙_}
+use Prim.Native.Nat.{ℕ}
+use mathlib.Core.Path.{_≡_, refl, subst}
 use mathlib.Core.Bool.{true, false}
+use mathlib.Core.List.{List}
 use lib.ListN.{length}
 use denote.Ref.{now}
 use Rattle.samples.specs.Faults.{Exact}
 use Rattle.picture.specs.declared.Work.{Work}
-use Rattle.picture.specs.HowConverted.{readsWide, writesWide, made}
+use Rattle.picture.specs.HowConverted.{readsWide, writesWide, made, counted}
 use Rattle.picture.proofs.Planning.{room-samples}
 use borrow.Author.Needs.{needs}
 use Rattle.picture.proofs.fill.Statement.{statement}
@@ -16,8 +18,11 @@ use Rattle.picture.proofs.fill.Tie as tie
 exact : (s : tie.Start) (work : Work) → s .args .work ≡ work → Exact (readsWide work) (writesWide work) (length (now (s .args .src))) (length (now (s .args .dst)))
 exact s work e = subst (λ w. Exact (readsWide w) (writesWide w) (length (now (s .args .src))) (length (now (s .args .dst)))) e (s .pre)
 
-made-by : (s : tie.Start) (work : Work) → s .args .work ≡ work → made work (now (s .args .src)) ≡ made (s .args .work) (now (s .args .src))
-made-by s work e = ap (λ w. made w (now (s .args .src))) (sym e)
+-- what the arm writes and counts is what the loop is for
+done-by :
+    (s : tie.Start) (work : Work) {after : List ℕ} {count : ℕ} → s .args .work ≡ work → after ≡ made work (now (s .args .src))
+    → count ≡ counted work (now (s .args .src)) → (after ≡ made (s .args .work) (now (s .args .src))) × (count ≡ counted (s .args .work) (now (s .args .src)))
+done-by s work e bytes count = rw e (bytes, count)
 
 enum-known-work : tie.Need-enum-known-work
 enum-known-work c = search needs
@@ -33,7 +38,7 @@ enum-known-work-2 c = search needs
 fill-srgb-requires : tie.Need-fill-srgb-requires
 fill-srgb-requires c κs =
     let s = c .before .before .before .before .before .before in
-    room-samples true false (now (s .args .src)) (now (s .args .dst)) (exact s _ (c .before .before .work2 .given .1))
+    exact s _ (c .before .before .work2 .given .1)
 
 enum-known-work-3 : tie.Need-enum-known-work-3
 enum-known-work-3 c = search needs
@@ -54,25 +59,25 @@ same-length : tie.Need-same-length
 same-length c = search needs
 
 returns : tie.Need-returns
-returns c = c .before .before .fill-samples .ensures ∙ made-by (c .before .before .before .before .before .before .before .before .before) _ (c .before .before .before .before .before .work .given .1)
+returns c = done-by (c .before .before .before .before .before .before .before .before .before) _ (c .before .before .before .before .before .work .given .1) (c .before .before .fill-samples .ensures) refl
 
 same-length-2 : tie.Need-same-length-2
 same-length-2 c = search needs
 
 returns-2 : tie.Need-returns-2
-returns-2 c = c .before .before .fill-srgb .ensures ∙ made-by (c .before .before .before .before .before .before .before .before .before) _ (c .before .before .before .before .before .work2 .given .1)
+returns-2 c = done-by (c .before .before .before .before .before .before .before .before .before) _ (c .before .before .before .before .before .work2 .given .1) (c .before .before .fill-srgb .ensures .0) (c .before .before .fill-srgb .ensures .1)
 
 same-length-3 : tie.Need-same-length-3
 same-length-3 c = search needs
 
 returns-3 : tie.Need-returns-3
-returns-3 c = c .before .before .fill-change .ensures ∙ made-by (c .before .before .before .before .before .before .before .before .before) _ (c .before .before .before .before .before .work3 .given .1)
+returns-3 c = done-by (c .before .before .before .before .before .before .before .before .before) _ (c .before .before .before .before .before .work3 .given .1) (c .before .before .fill-change .ensures) refl
 
 same-length-4 : tie.Need-same-length-4
 same-length-4 c = search needs
 
 returns-4 : tie.Need-returns-4
-returns-4 c = c .before .before .fill-by-rule .ensures ∙ made-by (c .before .before .before .before .before .before .before .before .before) _ (c .before .before .before .before .before .work4 .given .1)
+returns-4 c = done-by (c .before .before .before .before .before .before .before .before .before) _ (c .before .before .before .before .before .work4 .given .1) (c .before .before .fill-by-rule .ensures) refl
 
 pub fill-spec : {M : Type 1} → statement M
 fill-spec =

@@ -40,10 +40,12 @@ returns c =
     let made = trip .before .before .before .before .before .before in
     let entry = made .before .before .before .before .before .before .before in
     both-runs (λ i. entry .shared-slice-known .given i .fits) (made .convert .kept .1 .1 .0) (trip .round-trip .kept .1 .1 .0) (trip .round-trip .kept .1 .1 .1 .0)
-    (record { says = made .convert .ensures .0; bytes = made .convert .ensures .1 })
+    (record { says = made .convert .ensures .0; bytes = made .convert .ensures .1 .0 })
     (trip .round-trip .ensures)
-    (record { says = direct .convert2 .ensures .0; bytes = direct .convert2 .ensures .1 })
-    (record { says = round .convert3 .ensures .0; bytes = round .convert3 .ensures .1 })
+    (record { says = direct .convert2 .ensures .0; bytes = direct .convert2 .ensures .1 .0 })
+    (direct .convert2 .ensures .1 .1)
+    (record { says = round .convert3 .ensures .0; bytes = round .convert3 .ensures .1 .0 })
+    (round .convert3 .ensures .1 .1)
 
 pub both-runs-spec : {M : Type 1} → statement M
 both-runs-spec =

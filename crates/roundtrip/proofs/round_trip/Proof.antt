@@ -21,7 +21,7 @@ returns : tie.Need-returns
 returns c =
     let there = c .before .before .before .before .before .before .before .convert in
     let again = c .before .before .convert2 in
-    trip (record { says = there .ensures .0; bytes = there .ensures .1 }) (record { says = again .ensures .0; bytes = again .ensures .1 }) (there .kept .1 .1 .0)
+    trip (record { says = there .ensures .0; bytes = there .ensures .1 .0 }) (record { says = again .ensures .0; bytes = again .ensures .1 .0 }) (there .kept .1 .1 .0)
 
 pub round-trip-spec : {M : Type 1} → statement M
 round-trip-spec =

@@ -111,11 +111,15 @@ impl Conversion {
         }
     }
 
-    /// One pixel, converted.
-    pub fn pixel(self, pixel: [i64; 3]) -> [i64; 3] {
-        match self {
+    /// One pixel, converted, and whether it is counted as clipped: whether one of its channels is, on the way to sRGB.
+    pub fn pixel(self, pixel: [i64; 3]) -> ([i64; 3], bool) {
+        let converted = match self {
+            Conversion::ToSrgb(depth) => {
+                let channels = pixel.map(|c| samples::to_srgb(depth, c));
+                let clipped = channels.iter().any(|&(_, clipped)| clipped);
+                return (channels.map(|(sample, _)| sample), clipped);
+            }
             Conversion::FromSrgb(depth) => pixel.map(|a| samples::from_srgb(depth, a)),
-            Conversion::ToSrgb(depth) => pixel.map(|c| samples::to_srgb(depth, c)),
             Conversion::ChangeDepth(from, to) => pixel.map(|c| samples::change_depth(from, to, c)),
             Conversion::ToLumaChroma(depth) => samples::to_luma_chroma(depth, pixel),
             Conversion::FromLumaChroma(depth) => samples::from_luma_chroma(depth, pixel),
@@ -123,8 +127,16 @@ impl Conversion {
             Conversion::FromEsycc(depth) => ycc::from_esycc(depth, pixel),
             Conversion::ToSycc(depth) => ycc::to_sycc(depth, pixel),
             Conversion::FromSycc(depth) => ycc::from_sycc(depth, pixel),
-        }
+        };
+        (converted, false)
     }
+}
+
+/// What an accepted conversion gives: how many pixels there are, and how many of them are clipped.
+#[derive(Clone, Copy, Debug, PartialEq, Eq)]
+pub struct Converted {
+    pub pixels: usize,
+    pub clipped: usize,
 }
 
 /// A buffer as rule 4.2 looks at it: its length in bytes or numbers, and how many of them make a sample.
@@ -160,8 +172,8 @@ fn count_pixels(offered: bool, source: Extent, destination: Extent) -> Result<us
     Ok(pixels)
 }
 
-/// Converts a picture. Accepted, it gives the pixel count.
-pub fn convert(conversion: Conversion, src: &[u8], dst: &mut [u8]) -> Result<usize, Refusal> {
+/// Converts a picture.
+pub fn convert(conversion: Conversion, src: &[u8], dst: &mut [u8]) -> Result<Converted, Refusal> {
     let (from, to) = (conversion.source(), conversion.target());
     let pixels = count_pixels(
         from.offered() && to.offered(),
@@ -172,12 +184,15 @@ pub fn convert(conversion: Conversion, src: &[u8], dst: &mut [u8]) -> Result<usi
     if let Some(refusal) = from.fault(&samples) {
         return Err(refusal);
     }
-    let converted: Vec<i64> = samples
-        .chunks_exact(3)
-        .flat_map(|p| conversion.pixel([p[0], p[1], p[2]]))
-        .collect();
+    let mut clipped = 0;
+    let mut converted = Vec::new();
+    for p in samples.chunks_exact(3) {
+        let (pixel, is_clipped) = conversion.pixel([p[0], p[1], p[2]]);
+        converted.extend(pixel);
+        clipped += usize::from(is_clipped);
+    }
     dst.copy_from_slice(&to.write(&converted));
-    Ok(pixels)
+    Ok(Converted { pixels, clipped })
 }
 
 /// E-sRGB codes to light. Accepted, it gives the pixel count.

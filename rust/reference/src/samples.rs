@@ -46,9 +46,12 @@ pub fn from_srgb(depth: u32, sample: i64) -> i64 {
     step(depth) * sample + offset(depth)
 }
 
-/// The 8-bit sRGB sample of a code.
-pub fn to_srgb(depth: u32, code: i64) -> i64 {
-    nearest(code - offset(depth), step(depth)).clamp(0, 255)
+/// The 8-bit sRGB sample of a code, and whether the code is clipped: darker than black or lighter than white. A level
+/// that rounding alone would bring to black or white is clipped too.
+pub fn to_srgb(depth: u32, code: i64) -> (i64, bool) {
+    let level = code - offset(depth);
+    let sample = nearest(level, step(depth)).clamp(0, 255);
+    (sample, level < 0 || scale(depth) < level)
 }
 
 /// A code at another depth.
@@ -93,9 +96,12 @@ mod tests {
         assert_eq!(from_srgb(16, 255), 57_216);
         assert_eq!(
             [383, 385, 893, 1023].map(|c| to_srgb(10, c)),
-            [0, 1, 255, 255]
+            [(0, true), (1, false), (255, false), (255, true)]
         );
-        assert_eq!([1539, 1540].map(|c| to_srgb(12, c)), [0, 1]);
+        assert_eq!(
+            [1539, 1540].map(|c| to_srgb(12, c)),
+            [(0, false), (1, false)]
+        );
         assert_eq!(change_depth(10, 12, 1023), 4092);
         assert_eq!(
             [1537, 1538, 1539, 4095].map(|c| change_depth(12, 10, c)),
@@ -114,14 +120,26 @@ mod tests {
         let trip = |n, p| from_luma_chroma(n, to_luma_chroma(n, p));
         assert_eq!(trip(10, [384, 384, 894]), [385, 384, 894]);
         assert_eq!(
-            trip(10, [384, 384, 894]).map(|c| to_srgb(10, c)),
+            trip(10, [384, 384, 894]).map(|c| to_srgb(10, c).0),
             [1, 0, 255]
         );
         assert_eq!(trip(12, [1536, 1536, 3576]), [1536, 1537, 3576]);
         assert_eq!(
-            trip(12, [1536, 1536, 3576]).map(|c| to_srgb(12, c)),
+            trip(12, [1536, 1536, 3576]).map(|c| to_srgb(12, c).0),
             [0, 0, 255]
         );
+    }
+
+    /// Black and white are the last codes that are not clipped; the codes beyond have the same bytes.
+    #[test]
+    fn clipped_codes() {
+        for (depth, black, white) in [(10, 384, 894), (12, 1536, 3576), (16, 24_576, 57_216)] {
+            for code in 0..=greatest(depth) {
+                let (sample, clipped) = to_srgb(depth, code);
+                assert_eq!(clipped, !(black..=white).contains(&code), "{depth} {code}");
+                assert!(!clipped || sample == if code < black { 0 } else { 255 });
+            }
+        }
     }
 
     #[test]

@@ -1,5 +1,6 @@
-//! Prints what this implementation gives for the examples of rules 10.6 and 10.7, for both runs of the blue of rule
-//! 10.5 and for a walk over the sample file. The program `vectors` over the proved library must print the same.
+//! Prints what this implementation gives for the examples of rules 10.6 and 10.7, for the codes at which clipping to
+//! sRGB begins, for both runs of the blue of rule 10.5 and for a walk over the sample file. The program `vectors` over
+//! the proved library must print the same.
 
 use reference::{light, samples, spool};
 
@@ -54,13 +55,25 @@ fn main() {
             samples::change_depth(from, to, code)
         );
     }
+    // Black and white of each depth, each with the code beyond it.
+    let ends = [
+        (10, [383, 384, 894, 895]),
+        (12, [1535, 1536, 3576, 3577]),
+        (16, [24_575, 24_576, 57_216, 57_217]),
+    ];
+    for (depth, codes) in ends {
+        for code in codes {
+            let (sample, clipped) = samples::to_srgb(depth, code);
+            println!("srgb {depth} {code} {sample} {}", u8::from(clipped));
+        }
+    }
     let blue = [0, 0, 255];
     for depth in [10, 12] {
         let codes = blue.map(|sample| samples::from_srgb(depth, sample));
         let ycc = samples::to_luma_chroma(depth, codes);
         let back = samples::from_luma_chroma(depth, ycc);
         let [direct, round] =
-            [codes, back].map(|pixel| pixel.map(|code| samples::to_srgb(depth, code)));
+            [codes, back].map(|pixel| pixel.map(|code| samples::to_srgb(depth, code).0));
         let row = [codes, ycc, back, direct, round].concat();
         println!(
             "runs {depth} {}",

@@ -14,13 +14,14 @@
  * refused with 11. A buffer of length 0 is neither read nor written.
  *
  * `place` and `places` are written by the refusals that have a place, and otherwise keep what they
- * held.
+ * held. `clipped` is written where a conversion to sRGB is accepted, and otherwise keeps what it held.
  *
  * What no function can check, and each relies on:
  * - No pointer is null, not even that of an empty buffer. Each points to as much as its length or
  *   its type says, aligned as C asks.
  * - What a call writes overlaps nothing else that it is given. It writes destinations, and what
- *   place, again, again_place, answers, places, pixel, shop, table, next, record and text point to.
+ *   place, clipped, again, again_place, answers, places, pixel, shop, table, next, record and text
+ *   point to.
  * - A buffer is shorter than 2^63 bytes.
  * - During a call nobody else writes what the call is given, or reads what it writes.
  *
@@ -87,9 +88,11 @@ struct kiosk_record {
 int64_t kiosk_from_srgb(uint32_t depth, const uint8_t *src, size_t src_len,
                         uint8_t *dst, size_t dst_len, size_t *place);
 
-/* Converts e-sRGB of the given depth to 8-bit sRGB, clipping what 8 bits do not hold. */
+/* Converts e-sRGB of the given depth to 8-bit sRGB, clipping what sRGB does not hold. *clipped gets the number
+ * of pixels with a channel whose code is below black's or above white's (rule 1.7), whatever rounding makes of
+ * it: at 10 bits, below 384 or above 894. */
 int64_t kiosk_to_srgb(uint32_t depth, const uint8_t *src, size_t src_len,
-                      uint8_t *dst, size_t dst_len, size_t *place);
+                      uint8_t *dst, size_t dst_len, size_t *place, size_t *clipped);
 
 /* Converts e-sRGB of depth `from` to depth `to`: up by a power of two, down to the nearest code with
  * ties upward, clipped to the greatest. Equal depths copy. */
@@ -131,12 +134,14 @@ int64_t kiosk_round_trip(uint32_t depth, const uint8_t *codes, size_t codes_len,
 /* Five conversions (rule 5.2), in this order: the sRGB `picture` to e-sRGB in `codes`; `codes` to
  * luma and chroma in `ycc`; `ycc` back to e-sRGB in `back`; `codes` to 8-bit sRGB in `direct`; and
  * `back` to 8-bit sRGB in `round`. answers[k] gets the answer of the k-th, from 0, and places[k] its
- * place. All five are made: where one is refused, a later one that reads its destination converts
- * what was there before. */
+ * place. clipped[0] gets the clipped pixels of `direct`, and clipped[1] those of `round`, as kiosk_to_srgb
+ * counts them; each keeps what it held where its conversion is refused. All five are made: where one is
+ * refused, a later one that reads its destination converts what was there before. */
 void kiosk_both_runs(uint32_t depth, const uint8_t *picture, size_t picture_len,
                      uint8_t *codes, size_t codes_len, uint8_t *ycc, size_t ycc_len,
                      uint8_t *back, size_t back_len, uint8_t *direct, size_t direct_len,
-                     uint8_t *round, size_t round_len, int64_t answers[5], size_t places[5]);
+                     uint8_t *round, size_t round_len, int64_t answers[5], size_t places[5],
+                     size_t clipped[2]);
 
 /* ---- Linear light (rule 6), in signed millionths of reference white. Both give the pixel count. ---- */
 

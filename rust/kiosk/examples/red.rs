@@ -4,8 +4,8 @@ use kiosk::{convert, Conversion, Refusal};
 
 fn main() -> Result<(), Refusal> {
     let mut codes = [0; 6];
-    let pixels = convert(Conversion::FromSrgb { depth: 12 }, &[255, 0, 0], &mut codes)?;
+    let done = convert(Conversion::FromSrgb { depth: 12 }, &[255, 0, 0], &mut codes)?;
     let red = u16::from_le_bytes([codes[0], codes[1]]);
-    println!("{pixels} pixel, red code {red}");
+    println!("{} pixel, red code {red}", done.pixels);
     Ok(())
 }

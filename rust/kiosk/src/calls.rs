@@ -29,7 +29,7 @@ mod c {
     }
 
     conversions! {
-        kiosk_from_srgb kiosk_to_srgb
+        kiosk_from_srgb
         kiosk_to_luma_chroma kiosk_from_luma_chroma
         kiosk_to_esycc kiosk_from_esycc
         kiosk_to_sycc kiosk_from_sycc
@@ -57,6 +57,15 @@ mod c {
 
     // As in include/kiosk.h.
     extern "C" {
+        pub fn kiosk_to_srgb(
+            depth: u32,
+            src: *const u8,
+            src_len: usize,
+            dst: *mut u8,
+            dst_len: usize,
+            place: *mut usize,
+            clipped: *mut usize,
+        ) -> i64;
         pub fn kiosk_change_depth(
             from: u32,
             to: u32,
@@ -94,6 +103,7 @@ mod c {
             round_len: usize,
             answers: *mut [i64; 5],
             places: *mut [usize; 5],
+            clipped: *mut [usize; 2],
         );
         pub fn kiosk_code_to_light(
             depth: u32,
@@ -144,10 +154,12 @@ mod c {
 /// The bytes that are lent for a listing: the header's KIOSK_LISTING_ROOM.
 const LISTING_ROOM: usize = 16_384;
 
-/// What a call gives: its answer, and the place if it wrote one.
+/// What a call gives: its answer, the place if it wrote one, and the clipped pixels, which only a conversion to sRGB
+/// counts.
 pub struct Given {
     pub answer: i64,
     pub place: Option<usize>,
+    pub clipped: usize,
 }
 
 /// No place is this great: a slice has fewer bytes.
@@ -157,6 +169,7 @@ fn given(answer: i64, place: usize) -> Given {
     Given {
         answer,
         place: (place != UNWRITTEN).then_some(place),
+        clipped: 0,
     }
 }
 
@@ -174,8 +187,15 @@ pub fn convert(conversion: Conversion, src: &[u8], dst: &mut [u8]) -> Given {
             // SAFETY: the pointers and lengths are those of two slices that do not overlap, and of a local.
             return placed(|place| unsafe { c::kiosk_change_depth(from, to, s, n, d, m, place) });
         }
+        Conversion::ToSrgb { depth } => {
+            let mut clipped = 0;
+            let count = &mut clipped;
+            // SAFETY: as of a change of depth, and of one more local.
+            let given =
+                placed(|place| unsafe { c::kiosk_to_srgb(depth, s, n, d, m, place, count) });
+            return Given { clipped, ..given };
+        }
         Conversion::FromSrgb { depth } => (depth, c::kiosk_from_srgb),
-        Conversion::ToSrgb { depth } => (depth, c::kiosk_to_srgb),
         Conversion::ToLumaChroma { depth } => (depth, c::kiosk_to_luma_chroma),
         Conversion::FromLumaChroma { depth } => (depth, c::kiosk_from_luma_chroma),
         Conversion::ToEsycc { depth } => (depth, c::kiosk_to_esycc),
@@ -222,6 +242,7 @@ pub fn both_runs(
 ) -> [Given; 5] {
     let mut answers = [0; 5];
     let mut places = [UNWRITTEN; 5];
+    let mut clipped = [0; 2];
     // SAFETY: the pointers and lengths are those of six slices that do not overlap, and of locals.
     unsafe {
         c::kiosk_both_runs(
@@ -240,9 +261,15 @@ pub fn both_runs(
             round.len(),
             &mut answers,
             &mut places,
+            &mut clipped,
         );
     }
-    std::array::from_fn(|k| given(answers[k], places[k]))
+    // The last two are conversions to sRGB.
+    let clipped = [0, 0, 0, clipped[0], clipped[1]];
+    std::array::from_fn(|k| Given {
+        clipped: clipped[k],
+        ..given(answers[k], places[k])
+    })
 }
 
 pub fn code_to_light(depth: u32, src: &[u8], dst: &mut [i32]) -> Given {

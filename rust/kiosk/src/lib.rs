@@ -48,13 +48,27 @@ impl Conversion {
     }
 }
 
+/// What an accepted conversion gives.
+#[derive(Clone, Copy, Debug, PartialEq, Eq)]
+pub struct Converted {
+    pub pixels: usize,
+    /// The pixels with a channel whose code is below black's or above white's, which sRGB cannot hold. Only e-sRGB to
+    /// sRGB counts them; it is 0 for every other conversion.
+    pub clipped: usize,
+}
+
 fn counted(given: Given) -> Result<usize, Refusal> {
     refusal::judge(given.answer, given.place)
 }
 
-/// Converts the picture `src` into `dst` and gives its pixel count.
-pub fn convert(conversion: Conversion, src: &[u8], dst: &mut [u8]) -> Result<usize, Refusal> {
-    counted(calls::convert(conversion, src, dst))
+fn converted(given: Given) -> Result<Converted, Refusal> {
+    let clipped = given.clipped;
+    counted(given).map(|pixels| Converted { pixels, clipped })
+}
+
+/// Converts the picture `src` into `dst`, and gives how many pixels it has and how many were clipped.
+pub fn convert(conversion: Conversion, src: &[u8], dst: &mut [u8]) -> Result<Converted, Refusal> {
+    converted(calls::convert(conversion, src, dst))
 }
 
 /// What the two conversions of a round trip give.
@@ -80,8 +94,8 @@ pub struct BothRuns {
     pub codes: Result<usize, Refusal>,
     pub ycc: Result<usize, Refusal>,
     pub back: Result<usize, Refusal>,
-    pub direct: Result<usize, Refusal>,
-    pub round: Result<usize, Refusal>,
+    pub direct: Result<Converted, Refusal>,
+    pub round: Result<Converted, Refusal>,
 }
 
 /// Converts an sRGB picture to e-sRGB in `codes`, these to luma and chroma in `ycc`, those back to e-sRGB in
@@ -98,13 +112,13 @@ pub fn both_runs(
     round: &mut [u8],
 ) -> BothRuns {
     let [codes, ycc, back, direct, round] =
-        calls::both_runs(depth, picture, codes, ycc, back, direct, round).map(counted);
+        calls::both_runs(depth, picture, codes, ycc, back, direct, round);
     BothRuns {
-        codes,
-        ycc,
-        back,
-        direct,
-        round,
+        codes: counted(codes),
+        ycc: counted(ycc),
+        back: counted(back),
+        direct: converted(direct),
+        round: converted(round),
     }
 }
 

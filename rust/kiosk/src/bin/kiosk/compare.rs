@@ -1,7 +1,7 @@
 //! A picture of codes against its round trip through luma and chroma, and both at 8 bits (rules 5.1 and 5.2).
 
-use crate::form::{self, Form};
-use kiosk::{Conversion, Refusal};
+use crate::form::{self, Form, Picture};
+use kiosk::{Conversion, Converted, Refusal};
 use std::fmt;
 
 /// How the channels of two pictures compare.
@@ -44,8 +44,8 @@ impl fmt::Display for Tally {
 struct Runs {
     codes: Vec<u8>,
     back: Vec<u8>,
-    direct: Vec<u8>,
-    round: Vec<u8>,
+    direct: Picture,
+    round: Picture,
 }
 
 impl Runs {
@@ -63,14 +63,18 @@ impl Runs {
             &mut direct,
             &mut round,
         );
-        for answer in [runs.codes, runs.ycc, runs.back, runs.direct, runs.round] {
+        for answer in [runs.codes, runs.ycc, runs.back] {
             answer?;
         }
+        let picture = |pixels, answer: Result<Converted, Refusal>| {
+            let clipped = answer?.clipped;
+            Ok(Picture { pixels, clipped })
+        };
         Ok(Runs {
             codes,
             back,
-            direct,
-            round,
+            direct: picture(direct, runs.direct)?,
+            round: picture(round, runs.round)?,
         })
     }
 
@@ -91,13 +95,21 @@ impl Runs {
     }
 
     fn report(&self, depth: u32) -> String {
-        format!(
+        let (direct, round) = (&self.direct, &self.round);
+        let mut report = format!(
             "{depth} bits: {} channels: {}\n{depth} bits, brought to 8: {} channels: {}\n",
             self.codes.len() / 2,
             Tally::of(&self.codes, &self.back, 2),
-            self.direct.len(),
-            Tally::of(&self.direct, &self.round, 1)
-        )
+            direct.pixels.len(),
+            Tally::of(&direct.pixels, &round.pixels, 1)
+        );
+        for (run, picture) in [("", direct), (", after the round trip", round)] {
+            if picture.clipped > 0 {
+                let beyond = form::beyond_srgb(picture.clipped, picture.pixels.len() / 3);
+                report += &format!("{depth} bits{run}: {beyond}\n");
+            }
+        }
+        report
     }
 }
 

@@ -87,40 +87,54 @@ impl Form {
     }
 }
 
+/// A converted picture.
+pub struct Picture {
+    pub pixels: Vec<u8>,
+    /// The pixels that were clipped, if its last conversion is from e-sRGB to sRGB.
+    pub clipped: usize,
+}
+
+/// The sentence on clipped pixels.
+pub fn beyond_srgb(clipped: usize, pixels: usize) -> String {
+    format!("{clipped} of {pixels} pixels have a colour that sRGB cannot hold")
+}
+
 /// One conversion, into a buffer of its own.
-pub fn convert(conversion: Conversion, src: &[u8]) -> Result<Vec<u8>, Refusal> {
-    let mut dst = vec![0; conversion.needed(src.len())];
-    kiosk::convert(conversion, src, &mut dst)?;
-    Ok(dst)
+pub fn convert(conversion: Conversion, src: &[u8]) -> Result<Picture, Refusal> {
+    let mut pixels = vec![0; conversion.needed(src.len())];
+    let clipped = kiosk::convert(conversion, src, &mut pixels)?.clipped;
+    Ok(Picture { pixels, clipped })
 }
 
 /// E-sRGB codes of a depth, from a picture of any form.
 pub fn codes(from: Form, depth: u32, pixels: &[u8]) -> Result<Vec<u8>, Refusal> {
-    let changed = |from, codes: &[u8]| convert(Conversion::ChangeDepth { from, to: depth }, codes);
+    let own = |conversion| Ok(convert(conversion, pixels)?.pixels);
+    let changed = |from, codes: &[u8]| {
+        let change = Conversion::ChangeDepth { from, to: depth };
+        Ok(convert(change, codes)?.pixels)
+    };
     match from {
-        Form::Srgb => convert(Conversion::FromSrgb { depth }, pixels),
-        Form::Sycc => convert(Conversion::FromSycc { depth }, pixels),
-        Form::Esrgb(own) => changed(own, pixels),
-        Form::LumaChroma(own) => changed(
-            own,
-            &convert(Conversion::FromLumaChroma { depth: own }, pixels)?,
-        ),
-        Form::Esycc(own) => changed(own, &convert(Conversion::FromEsycc { depth: own }, pixels)?),
+        Form::Srgb => own(Conversion::FromSrgb { depth }),
+        Form::Sycc => own(Conversion::FromSycc { depth }),
+        Form::Esrgb(from) => changed(from, pixels),
+        Form::LumaChroma(from) => changed(from, &own(Conversion::FromLumaChroma { depth: from })?),
+        Form::Esycc(from) => changed(from, &own(Conversion::FromEsycc { depth: from })?),
     }
 }
 
 /// A picture of one form in another, by the conversions that the library has (rule 4.1): to e-sRGB codes, and from
 /// these to the other form. The codes have the depth of the form that is asked for, or else that of the picture.
-pub fn converted(from: Form, to: Form, pixels: &[u8]) -> Result<Vec<u8>, Refusal> {
+pub fn converted(from: Form, to: Form, pixels: &[u8]) -> Result<Picture, Refusal> {
     let depth = to.depth().or(from.depth()).unwrap_or(FINEST);
     let codes = codes(from, depth, pixels)?;
+    let whole = |pixels| Ok(Picture { pixels, clipped: 0 });
     if from == to {
         // The same samples, since there and back again would change some. Their codes have shown that they are sound.
-        return Ok(pixels.to_vec());
+        return whole(pixels.to_vec());
     }
     match to {
         Form::Srgb => convert(Conversion::ToSrgb { depth }, &codes),
-        Form::Esrgb(_) => Ok(codes),
+        Form::Esrgb(_) => whole(codes),
         Form::LumaChroma(_) => convert(Conversion::ToLumaChroma { depth }, &codes),
         Form::Esycc(_) => convert(Conversion::ToEsycc { depth }, &codes),
         Form::Sycc => convert(Conversion::ToSycc { depth }, &codes),

@@ -1,15 +1,17 @@
-//! The kiosk command: lists, converts, compares and previews the frames of a spool file, and converts tints.
+//! The kiosk command: lists, checks, converts, compares and previews the frames of a spool file, and converts tints.
 
 #![forbid(unsafe_code)]
 
+mod check;
 mod compare;
 mod form;
 mod output;
 mod png;
+mod progress;
 mod tint;
 
 use form::{Form, Target};
-use kiosk::{Fault, Frame, Refusal};
+use kiosk::{Fault, Frame, Record, Refusal};
 use std::collections::BTreeMap;
 use std::ffi::{OsStr, OsString};
 use std::fs::File;
@@ -19,6 +21,7 @@ use std::process::ExitCode;
 
 const USAGE: &str = "\
 usage: kiosk list FILE
+       kiosk check FILE
        kiosk convert FILE FRAME --to FORM --out FILE [--raw]
        kiosk compare FILE FRAME
        kiosk preview FILE FRAME --out FILE.png
@@ -27,15 +30,22 @@ usage: kiosk list FILE
 list      prints a heading and a line for each frame of a spool file, or a line
           with `refused` and a number, and why on standard error. A file of more
           than 65,536 bytes is refused
+check     prints a line for each frame: the refusal that it gets, or that it is
+          sound and how many of its pixels have a colour that sRGB cannot hold,
+          with a channel darker than black or lighter than white. Status 1 if a
+          frame is refused
 convert   writes a spool with the one frame, converted; with --raw only its pixels.
           FORM is srgb, esrgb10, esrgb12, esrgb16, lumachroma10, lumachroma12,
           lumachroma16, esycc10, esycc12, esycc16, sycc, light10 or light12. At a
           smaller depth a code becomes the nearest. Light is written raw, as signed
-          32-bit numbers of millionths of reference white, the low byte first
+          32-bit numbers of millionths of reference white, the low byte first.
+          To srgb it says on standard error how many pixels sRGB cannot hold, if any
 compare   takes the frame through luma and chroma and back, one of sRGB or sYCC at
           each depth, and says how many channels come back equal, one less or one
-          more, also at 8 bits
-preview   writes the frame as an 8-bit PNG picture
+          more, also at 8 bits, and how many pixels sRGB cannot hold, before and
+          after
+preview   writes the frame as an 8-bit PNG picture, and says on standard error how
+          many pixels sRGB cannot hold, if any
 tint      prints a colour as a pixel of 12-bit e-sRGB: three codes from 0 to 4095.
           Codes of 8-bit sRGB are from 0 to 255. Nonlinear numbers have black at 0
           and white at 1, light has reference white at 1, and both may be any
@@ -70,15 +80,15 @@ fn main() -> ExitCode {
     let words: Vec<OsString> = std::env::args_os().skip(1).collect();
     match run(&words) {
         Ok(()) => ExitCode::SUCCESS,
-        Err(Failure::Usage(message)) => {
-            eprint!("kiosk: {message}\n{USAGE}");
-            ExitCode::from(2)
-        }
-        Err(Failure::Failed(message)) => {
-            eprintln!("kiosk: {message}");
-            ExitCode::from(1)
-        }
+        Err(Failure::Usage(message)) => failed(2, &format!("kiosk: {message}\n{USAGE}")),
+        Err(Failure::Failed(message)) => failed(1, &format!("kiosk: {message}\n")),
     }
+}
+
+/// Where nobody can be told why, the status still says that it failed.
+fn failed(status: u8, why: &str) -> ExitCode {
+    let _ = io::stderr().write_all(why.as_bytes());
+    ExitCode::from(status)
 }
 
 /// The options, and whether each has a value.
@@ -134,6 +144,24 @@ impl<'a> Words<'a> {
     fn out(&self) -> Result<&'a Path, Failure> {
         self.wanted("--out").map(Path::new)
     }
+
+    fn target(&self) -> Result<Target, Failure> {
+        let name = self.wanted("--to")?;
+        let target = name.to_str().and_then(Target::named);
+        target.ok_or_else(|| Failure::usage(format!("{} is no form of a picture", name.display())))
+    }
+
+    /// The one option of a tint, and its value.
+    fn tint(&self) -> Result<(&'static str, &'a OsStr), Failure> {
+        let mut given = self.options.iter();
+        match (given.next(), given.next()) {
+            (Some((option, value)), None) => Ok((option, value)),
+            _ => Err(Failure::usage(format!(
+                "tint wants one of {}",
+                tint::OPTIONS.join(", ")
+            ))),
+        }
+    }
 }
 
 fn run(words: &[OsString]) -> Result<(), Failure> {
@@ -149,6 +177,10 @@ fn run(words: &[OsString]) -> Result<(), Failure> {
             words.only(&[])?;
             list(Path::new(file))
         }
+        (Some("check"), [file]) => {
+            words.only(&[])?;
+            check::run(Path::new(file))
+        }
         (Some("compare"), [file, frame]) => {
             words.only(&[])?;
             compare_runs(Path::new(file), number(frame)?)
@@ -159,27 +191,18 @@ fn run(words: &[OsString]) -> Result<(), Failure> {
         }
         (Some("convert"), [file, frame]) => {
             words.only(&["--to", "--out", "--raw"])?;
-            let name = words.wanted("--to")?;
-            let target = name.to_str().and_then(Target::named).ok_or_else(|| {
-                Failure::usage(format!("{} is no form of a picture", name.display()))
-            })?;
             let raw = words.options.contains_key("--raw");
-            convert(Path::new(file), number(frame)?, target, raw, words.out()?)
+            let (target, out) = (words.target()?, words.out()?);
+            convert(Path::new(file), number(frame)?, target, raw, out)
         }
         (Some("tint"), []) => {
             words.only(&tint::OPTIONS)?;
-            let mut given = words.options.iter();
-            match (given.next(), given.next()) {
-                (Some((option, value)), None) => tint(option, value),
-                _ => Err(Failure::usage(format!(
-                    "tint wants one of {}",
-                    tint::OPTIONS.join(", ")
-                ))),
-            }
+            let (option, value) = words.tint()?;
+            tint(option, value)
         }
-        (Some("list" | "compare" | "preview" | "convert" | "tint"), _) => Err(Failure::usage(
-            format!("{} wants other words", command.display()),
-        )),
+        (Some("list" | "check" | "compare" | "preview" | "convert" | "tint"), _) => Err(
+            Failure::usage(format!("{} wants other words", command.display())),
+        ),
         _ => Err(Failure::usage(format!(
             "unknown command {}",
             command.display()
@@ -217,17 +240,35 @@ fn read(path: &Path) -> Result<Vec<u8>, Failure> {
     Ok(bytes)
 }
 
-/// Writes to standard output. A reader that has seen enough is no fault.
+/// Writes to standard output.
 fn print(text: &str) -> Result<(), Failure> {
-    let mut stdout = io::stdout().lock();
-    match stdout
+    write("standard output", &mut io::stdout().lock(), text)
+}
+
+/// Writes to a stream. A reader that has seen enough is no fault.
+fn write(name: &str, stream: &mut impl Write, text: &str) -> Result<(), Failure> {
+    match stream
         .write_all(text.as_bytes())
-        .and_then(|()| stdout.flush())
+        .and_then(|()| stream.flush())
     {
         Ok(()) => Ok(()),
         Err(error) if error.kind() == io::ErrorKind::BrokenPipe => Ok(()),
-        Err(error) => Err(Failure::about(Path::new("standard output"), error)),
+        Err(error) => Err(Failure::about(Path::new(name), error)),
     }
+}
+
+/// Says on standard error how many pixels of a frame were clipped, if any were.
+fn tell_clipped(place: &Path, record: &Record, clipped: usize) -> Result<(), Failure> {
+    if clipped == 0 {
+        return Ok(());
+    }
+    let pixels = usize::from(record.width) * usize::from(record.height);
+    let said = format!(
+        "kiosk: {}: {}\n",
+        place.display(),
+        form::beyond_srgb(clipped, pixels)
+    );
+    write("standard error", &mut io::stderr().lock(), &said)
 }
 
 fn list(path: &Path) -> Result<(), Failure> {
@@ -262,19 +303,26 @@ fn convert(
     let (frame, place) = found(path, &file, number)?;
     let refused = |refusal| Failure::about(&place, refusal);
     let from = Form::of(&frame.record).map_err(refused)?;
-    let bytes = match target {
-        Target::Light(depth) => form::light(from, depth, frame.pixels).map_err(refused)?,
-        Target::Picture(form) => {
-            let pixels = form::converted(from, form, frame.pixels).map_err(refused)?;
-            if raw {
-                pixels
-            } else {
-                let shop = kiosk::open(&file).map_err(refused)?.shop;
-                form::spool_of(frame.record, form, shop, &pixels).map_err(refused)?
-            }
+    let form = match target {
+        Target::Light(depth) => {
+            let light = form::light(from, depth, frame.pixels).map_err(refused)?;
+            return save(out, &light);
         }
+        Target::Picture(form) => form,
     };
-    output::write(out, &bytes).map_err(|error| Failure::about(out, error))
+    let picture = form::converted(from, form, frame.pixels).map_err(refused)?;
+    if raw {
+        save(out, &picture.pixels)?;
+    } else {
+        let shop = kiosk::open(&file).map_err(refused)?.shop;
+        let spool = form::spool_of(frame.record, form, shop, &picture.pixels).map_err(refused)?;
+        save(out, &spool)?;
+    }
+    tell_clipped(&place, &frame.record, picture.clipped)
+}
+
+fn save(out: &Path, bytes: &[u8]) -> Result<(), Failure> {
+    output::write(out, bytes).map_err(|error| Failure::about(out, error))
 }
 
 fn compare_runs(path: &Path, number: usize) -> Result<(), Failure> {
@@ -289,11 +337,12 @@ fn compare_runs(path: &Path, number: usize) -> Result<(), Failure> {
 fn preview(path: &Path, number: usize, out: &Path) -> Result<(), Failure> {
     let file = read(path)?;
     let (frame, place) = found(path, &file, number)?;
-    let pixels = Form::of(&frame.record)
+    let picture = Form::of(&frame.record)
         .and_then(|form| form::converted(form, Form::Srgb, frame.pixels))
         .map_err(|refusal| Failure::about(&place, refusal))?;
-    let picture = png::encoded(frame.record.width, frame.record.height, &pixels);
-    output::write(out, &picture).map_err(|error| Failure::about(out, error))
+    let png = png::encoded(frame.record.width, frame.record.height, &picture.pixels);
+    save(out, &png)?;
+    tell_clipped(&place, &frame.record, picture.clipped)
 }
 
 fn tint(option: &str, value: &OsStr) -> Result<(), Failure> {

@@ -37,7 +37,7 @@ static void pictures(void)
 {
     const uint8_t srgb[6] = {0, 128, 255, 255, 0, 0};
     uint8_t codes[12], wide[12], ycc[12], back[12], eight[6];
-    size_t place = 77, again_place = 78;
+    size_t place = 77, again_place = 78, clipped = 79;
     int64_t again = 0;
 
     CHECK(kiosk_from_srgb(10, srgb, sizeof srgb, codes, sizeof codes, &place) == 2);
@@ -53,9 +53,9 @@ static void pictures(void)
     CHECK(code_at(ycc, 3) == 536 && code_at(ycc, 4) == 426 && code_at(ycc, 5) == 767);
     CHECK(kiosk_from_luma_chroma(10, ycc, sizeof ycc, back, sizeof back, &place) == 2);
     CHECK(code_at(back, 3) == 894 && code_at(back, 4) == 383 && code_at(back, 5) == 384);
-    CHECK(kiosk_to_srgb(10, codes, sizeof codes, eight, sizeof eight, &place) == 2);
+    CHECK(kiosk_to_srgb(10, codes, sizeof codes, eight, sizeof eight, &place, &clipped) == 2);
     CHECK(memcmp(eight, srgb, sizeof srgb) == 0);
-    CHECK(place == 77);
+    CHECK(place == 77 && clipped == 0);
 
     memset(ycc, 1, sizeof ycc);
     memset(back, 2, sizeof back);
@@ -67,12 +67,6 @@ static void pictures(void)
     memcpy(back, codes, sizeof codes);
     CHECK(kiosk_from_srgb(11, srgb, sizeof srgb, back, sizeof back, &place) == -KIOSK_DEPTH_NOT_OFFERED);
     CHECK(kiosk_from_srgb(10, srgb, 5, back, sizeof back, &place) == -KIOSK_NOT_WHOLE_PIXELS);
-    CHECK(kiosk_to_srgb(10, codes, 11, eight, sizeof eight, &place) == -KIOSK_NOT_WHOLE_SAMPLES);
-    CHECK(kiosk_to_srgb(10, codes, 10, eight, sizeof eight, &place) == -KIOSK_NOT_WHOLE_PIXELS);
-    CHECK(kiosk_to_srgb(10, codes, 9, eight, 1, &place) == -KIOSK_NOT_WHOLE_SAMPLES);
-    CHECK(kiosk_to_srgb(10, codes, 8, eight, 1, &place) == -KIOSK_NOT_WHOLE_PIXELS);
-    CHECK(kiosk_to_srgb(11, codes, 9, eight, 1, &place) == -KIOSK_DEPTH_NOT_OFFERED);
-    CHECK(memcmp(eight, srgb, sizeof srgb) == 0);
     CHECK(kiosk_from_srgb(10, srgb, sizeof srgb, back, 11, &place) == -KIOSK_WRONG_DESTINATION_LENGTH);
     CHECK(place == 77);
     put_code(codes, 4, 1024);
@@ -82,6 +76,94 @@ static void pictures(void)
     CHECK(kiosk_from_luma_chroma(10, ycc, sizeof ycc, back, sizeof back, &place) == -KIOSK_CHROMA_ZERO);
     CHECK(place == 2);
     CHECK(code_at(back, 1) == 640 && code_at(back, 3) == 894);
+}
+
+/* A picture of the depth's black, but for one sample: how many of its pixels are clipped. */
+static size_t clipped_of(uint32_t depth, size_t k, unsigned code)
+{
+    uint8_t codes[6 * 33], eight[3 * 33];
+    size_t place = 77, clipped = 79;
+
+    for (size_t i = 0; i < 3 * 33; i++)
+        put_code(codes, i, 3u << (depth - 3));
+    put_code(codes, k, code);
+    if (kiosk_to_srgb(depth, codes, sizeof codes, eight, sizeof eight, &place, &clipped) != 33 || place != 77)
+        return 80;
+    return clipped;
+}
+
+/* Clipped is what lies outside black and white, whatever it is rounded to, and a pixel counts once. */
+static void clipped_pixels(void)
+{
+    static const unsigned ends[3][3] = {{10, 384, 894}, {12, 1536, 3576}, {16, 24576, 57216}};
+    const unsigned pixels[9] = {383, 384, 384, 0, 895, 1023, 384, 894, 640};
+    const uint8_t narrow[9] = {0, 0, 0, 0, 255, 255, 0, 255, 128};
+    uint8_t codes[18], eight[9];
+    size_t place = 77, clipped = 79;
+
+    for (size_t k = 0; k < 9; k++)
+        put_code(codes, k, pixels[k]);
+    CHECK(kiosk_to_srgb(10, codes, sizeof codes, eight, sizeof eight, &place, &clipped) == 3);
+    CHECK(clipped == 2 && place == 77 && memcmp(eight, narrow, sizeof narrow) == 0);
+    CHECK(kiosk_to_srgb(10, codes, 0, eight, 0, &place, &clipped) == 0);
+    CHECK(clipped == 0 && place == 77 && memcmp(eight, narrow, sizeof narrow) == 0);
+    for (size_t d = 0; d < 3; d++)
+        for (size_t k = 0; k < 3 * 33; k++) {
+            CHECK(clipped_of(ends[d][0], k, ends[d][1] - 1) == 1);
+            CHECK(clipped_of(ends[d][0], k, ends[d][1]) == 0);
+            CHECK(clipped_of(ends[d][0], k, ends[d][2]) == 0);
+            CHECK(clipped_of(ends[d][0], k, ends[d][2] + 1) == 1);
+        }
+}
+
+/* Is a conversion to sRGB refused with this number, and leaves it the destination and the count as they were? */
+static int to_srgb_refused(int number, uint32_t depth, const uint8_t *codes, size_t codes_len, size_t room,
+                           size_t at)
+{
+    uint8_t eight[3 * 70];
+    size_t place = 77, none = 0, some = 79;
+
+    memset(eight, 0x5a, sizeof eight);
+    if (kiosk_to_srgb(depth, codes, codes_len, eight, room, &place, &some) != -number || some != 79
+        || place != at)
+        return 0;
+    place = 77;
+    if (kiosk_to_srgb(depth, codes, codes_len, eight, room, &place, &none) != -number || none != 0
+        || place != at)
+        return 0;
+    for (size_t k = 0; k < sizeof eight; k++)
+        if (eight[k] != 0x5a)
+            return 0;
+    return 1;
+}
+
+/* All pixels are clipped, so that a count of those before a fault would show. */
+static void clipped_refused(void)
+{
+    static const uint32_t depths[3] = {10, 12, 16}, others[4] = {0, 8, 11, UINT32_MAX};
+    uint8_t codes[6 * 70];
+
+    memset(codes, 0, sizeof codes);
+    for (size_t k = 0; k < 4; k++) {
+        CHECK(to_srgb_refused(KIOSK_DEPTH_NOT_OFFERED, others[k], codes, 6 * 70, 3 * 70, 77));
+        CHECK(to_srgb_refused(KIOSK_DEPTH_NOT_OFFERED, others[k], codes, 9, 1, 77));
+    }
+    for (size_t k = 0; k < 3; k++) {
+        CHECK(to_srgb_refused(KIOSK_NOT_WHOLE_SAMPLES, depths[k], codes, 6 * 70 - 1, 3 * 70, 77));
+        CHECK(to_srgb_refused(KIOSK_NOT_WHOLE_SAMPLES, depths[k], codes, 9, 1, 77));
+        CHECK(to_srgb_refused(KIOSK_NOT_WHOLE_PIXELS, depths[k], codes, 6 * 70 - 2, 3 * 70, 77));
+        CHECK(to_srgb_refused(KIOSK_NOT_WHOLE_PIXELS, depths[k], codes, 8, 1, 77));
+        CHECK(to_srgb_refused(KIOSK_WRONG_DESTINATION_LENGTH, depths[k], codes, 6 * 70, 3 * 70 - 1, 77));
+        CHECK(to_srgb_refused(KIOSK_WRONG_DESTINATION_LENGTH, depths[k], codes, 6, 0, 77));
+        CHECK(to_srgb_refused(KIOSK_WRONG_DESTINATION_LENGTH, depths[k], codes, 0, 1, 77));
+    }
+    for (size_t k = 0; k < 3 * 70; k++) {
+        put_code(codes, k, 4096);
+        CHECK(to_srgb_refused(KIOSK_SAMPLE_TOO_GREAT, 12, codes, 6 * 70, 3 * 70, 2 * k));
+        put_code(codes, k, 1024);
+        CHECK(to_srgb_refused(KIOSK_SAMPLE_TOO_GREAT, 10, codes, 6 * 70, 3 * 70, 2 * k));
+        put_code(codes, k, 0);
+    }
 }
 
 /* Does the pixel at sample k hold these three? */
@@ -171,12 +253,13 @@ static void both_runs(void)
     const uint8_t blue[3] = {0, 0, 255};
     uint8_t codes[6], ycc[6], back[6], direct[3], around[3];
     int64_t answers[5] = {70, 71, 72, 73, 74};
-    size_t places[5] = {80, 81, 82, 83, 84};
+    size_t places[5] = {80, 81, 82, 83, 84}, clipped[2] = {90, 91};
 
     kiosk_both_runs(10, blue, sizeof blue, codes, sizeof codes, ycc, sizeof ycc, back, sizeof back, direct,
-                    sizeof direct, around, sizeof around, answers, places);
+                    sizeof direct, around, sizeof around, answers, places, clipped);
     for (size_t k = 0; k < 5; k++)
         CHECK(answers[k] == 1 && places[k] == 80 + k);
+    CHECK(clipped[0] == 0 && clipped[1] == 0);
     CHECK(code_at(codes, 0) == 384 && code_at(codes, 1) == 384 && code_at(codes, 2) == 894);
     CHECK(code_at(back, 0) == 385 && code_at(back, 1) == 384 && code_at(back, 2) == 894);
     CHECK(memcmp(direct, blue, sizeof blue) == 0);
@@ -189,8 +272,11 @@ static void both_runs(void)
     memset(back, 2, sizeof back);
     memset(direct, 3, sizeof direct);
     memset(around, 4, sizeof around);
+    clipped[0] = 90;
+    clipped[1] = 91;
     kiosk_both_runs(10, blue, 2, codes, sizeof codes, ycc, sizeof ycc, back, sizeof back, direct, sizeof direct,
-                    around, sizeof around, answers, places);
+                    around, sizeof around, answers, places, clipped);
+    CHECK(clipped[0] == 90 && clipped[1] == 0);
     CHECK(answers[0] == -KIOSK_NOT_WHOLE_PIXELS && places[0] == 80);
     CHECK(answers[1] == -KIOSK_SAMPLE_TOO_GREAT && places[1] == 4);
     CHECK(answers[2] == 1 && places[2] == 82);
@@ -200,6 +286,27 @@ static void both_runs(void)
     CHECK(code_at(back, 0) == 385 && code_at(back, 1) == 384 && code_at(back, 2) == 894);
     CHECK(direct[0] == 3 && direct[1] == 3 && direct[2] == 3);
     CHECK(around[0] == 1 && around[1] == 0 && around[2] == 255);
+}
+
+/* Red, of which one channel comes back below black: only the last conversion clips it. Then that one has no room,
+ * and the one before takes codes that were there, of which two pixels are clipped. */
+static void both_runs_clipped(void)
+{
+    const uint8_t red[6] = {255, 0, 0, 255, 0, 0};
+    uint8_t codes[12], ycc[12], back[12], direct[6], around[6];
+    int64_t answers[5];
+    size_t places[5], clipped[2] = {90, 91};
+
+    kiosk_both_runs(10, red, sizeof red, codes, sizeof codes, ycc, sizeof ycc, back, sizeof back, direct,
+                    sizeof direct, around, sizeof around, answers, places, clipped);
+    CHECK(code_at(back, 4) == 383 && clipped[0] == 0 && clipped[1] == 2);
+    for (size_t k = 0; k < 6; k++)
+        put_code(codes, k, 1023);
+    clipped[1] = 91;
+    kiosk_both_runs(10, red, 5, codes, sizeof codes, ycc, sizeof ycc, back, sizeof back, direct,
+                    sizeof direct, around, 5, answers, places, clipped);
+    CHECK(answers[3] == 2 && clipped[0] == 2);
+    CHECK(answers[4] == -KIOSK_WRONG_DESTINATION_LENGTH && clipped[1] == 91);
 }
 
 static void light(void)
@@ -385,10 +492,13 @@ static void listings(void)
 int main(void)
 {
     pictures();
+    clipped_pixels();
+    clipped_refused();
     standard_ycc();
     standard_ycc_refused();
     round_trip_refused();
     both_runs();
+    both_runs_clipped();
     light();
     tints();
     spools();

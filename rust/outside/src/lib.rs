@@ -3,7 +3,7 @@
 
 #![forbid(unsafe_code)]
 
-use reference::buffers::Conversion;
+use reference::buffers::{Conversion, Converted};
 use reference::spool::Record;
 use std::fmt::Debug;
 
@@ -103,24 +103,25 @@ pub fn guarded<T: Copy + PartialEq, R>(
 /// A call by the library and by the reference, over destinations that held the same: answers and every byte or number
 /// are compared. `what` names the call if they differ. Gives the number of the refusal, if it is refused, and the
 /// destination after it.
-pub fn by_both<T: Copy + PartialEq + Debug>(
+pub fn by_both<T: Copy + PartialEq + Debug, A: PartialEq + Debug>(
     before: &[T],
     guard: T,
-    library: impl FnOnce(&mut [T]) -> Result<usize, kiosk::Refusal>,
-    reference: impl FnOnce(&mut [T]) -> Result<usize, reference::Refusal>,
+    library: impl FnOnce(&mut [T]) -> Result<A, kiosk::Refusal>,
+    reference: impl FnOnce(&mut [T]) -> Result<A, reference::Refusal>,
     what: impl FnOnce() -> String,
 ) -> (Option<u8>, Vec<T>) {
     let (answer, after) = guarded(before, guard, library);
     let mut expected = before.to_vec();
     let expected_answer = reference(&mut expected);
+    let answer = said(answer);
     assert_eq!(
-        (said(answer), &after),
-        (expected_answer, &expected),
+        (&answer, &after),
+        (&expected_answer, &expected),
         "{} into a length of {}",
         what(),
         before.len()
     );
-    (expected_answer.err().map(|refusal| refusal.number), after)
+    (answer.err().map(|refusal| refusal.number), after)
 }
 
 /// The library's conversion of the reference's.
@@ -135,6 +136,14 @@ pub fn of_library(conversion: Conversion) -> kiosk::Conversion {
         Conversion::FromEsycc(depth) => kiosk::Conversion::FromEsycc { depth },
         Conversion::ToSycc(depth) => kiosk::Conversion::ToSycc { depth },
         Conversion::FromSycc(depth) => kiosk::Conversion::FromSycc { depth },
+    }
+}
+
+/// What the library says of an accepted conversion, in the reference's words.
+pub fn counts(converted: kiosk::Converted) -> Converted {
+    Converted {
+        pixels: converted.pixels,
+        clipped: converted.clipped,
     }
 }
 

@@ -11,7 +11,7 @@ use std::time::Instant;
 /// A part of the tests: what it compares, and the function that gives how many.
 type Part = (&'static str, fn() -> u64);
 
-const PARTS: [Part; 20] = [
+const PARTS: [Part; 23] = [
     (
         "samples: every code of every depth",
         parts::pictures::every_sample,
@@ -39,6 +39,18 @@ const PARTS: [Part; 20] = [
     (
         "sYCC pixels to e-sRGB, all 2^24 at three depths",
         parts::ycc::from_sycc,
+    ),
+    (
+        "pixels clipped to sRGB: every code in each channel",
+        parts::clipped::every_code,
+    ),
+    (
+        "pixels clipped to sRGB, in pictures of any colours and of edges",
+        parts::clipped::pictures,
+    ),
+    (
+        "pictures with no pixel clipped, one at each position, and all",
+        parts::clipped::positions,
     ),
     (
         "calls of Convert: every length from 0 to 40 bytes",

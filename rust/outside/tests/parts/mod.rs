@@ -1,3 +1,4 @@
+pub mod clipped;
 pub mod light;
 pub mod pictures;
 pub mod spools;

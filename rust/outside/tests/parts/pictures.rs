@@ -1,7 +1,7 @@
 //! Convert.
 
-use outside::{all_guarded, by_both, guarded, of_library, said, Random};
-use reference::buffers::{convert, Conversion, Form};
+use outside::{all_guarded, by_both, counts, guarded, of_library, said, Random};
+use reference::buffers::{convert, Conversion, Converted, Form};
 use reference::samples;
 use std::collections::{BTreeSet, HashMap};
 use std::mem::discriminant;
@@ -22,15 +22,25 @@ fn read(bytes: &[u8], width: usize) -> Vec<i64> {
         .collect()
 }
 
+/// A picture that the library converted, and how many of its pixels it counted as clipped.
+pub struct Picture {
+    pub bytes: Vec<u8>,
+    pub clipped: usize,
+}
+
 /// The library's conversion of a sound picture, in a destination that held something else.
-pub fn converted(conversion: Conversion, src: &[u8]) -> Vec<u8> {
+pub fn converted(conversion: Conversion, src: &[u8]) -> Picture {
     let pixels = src.len() / (3 * conversion.source().width());
     let before = vec![0x5a; pixels * 3 * conversion.target().width()];
-    let (answer, after) = guarded(&before, 0xa5, |dst| {
+    let (answer, bytes) = guarded(&before, 0xa5, |dst| {
         kiosk::convert(of_library(conversion), src, dst)
     });
-    assert_eq!(answer, Ok(pixels), "{conversion:?}");
-    after
+    let answer = answer.expect("a sound picture is converted");
+    assert_eq!(answer.pixels, pixels, "{conversion:?}");
+    Picture {
+        bytes,
+        clipped: answer.clipped,
+    }
 }
 
 /// The samples of a pixel of one-byte or two-byte samples.
@@ -42,16 +52,20 @@ fn pixel(bytes: &[u8]) -> [i64; 3] {
     }
 }
 
-/// Compares the library's pixels with the reference's rule, pixel by pixel.
-pub fn compare(conversion: Conversion, src: &[u8], after: &[u8]) -> u64 {
+/// Compares the library's pixels with the reference's rule, pixel by pixel, and how many are clipped.
+pub fn compare(conversion: Conversion, src: &[u8], after: &Picture) -> u64 {
     let bytes = |form: Form| 3 * form.width();
     let before = src.chunks_exact(bytes(conversion.source()));
-    let after = after.chunks_exact(bytes(conversion.target()));
+    let pixels = after.bytes.chunks_exact(bytes(conversion.target()));
     let count = before.len() as u64;
-    for (p, q) in before.zip(after) {
+    let mut clipped = 0;
+    for (p, q) in before.zip(pixels) {
         let (p, q) = (pixel(p), pixel(q));
-        assert_eq!(q, conversion.pixel(p), "{conversion:?} of {p:?}");
+        let (expected, is_clipped) = conversion.pixel(p);
+        assert_eq!(q, expected, "{conversion:?} of {p:?}");
+        clipped += usize::from(is_clipped);
     }
+    assert_eq!(after.clipped, clipped, "clipped by {conversion:?}");
     count
 }
 
@@ -86,22 +100,27 @@ pub fn every_srgb_pixel() -> u64 {
                 .flat_map(|green| (0..=255).flat_map(move |blue| [red, green, blue]))
                 .collect();
             let codes = converted(Conversion::FromSrgb(depth), &picture);
-            let ycc = converted(Conversion::ToLumaChroma(depth), &codes);
-            let back = converted(Conversion::FromLumaChroma(depth), &ycc);
-            let direct = converted(Conversion::ToSrgb(depth), &codes);
-            let round = converted(Conversion::ToSrgb(depth), &back);
+            let ycc = converted(Conversion::ToLumaChroma(depth), &codes.bytes);
+            let back = converted(Conversion::FromLumaChroma(depth), &ycc.bytes);
+            let direct = converted(Conversion::ToSrgb(depth), &codes.bytes);
+            let round = converted(Conversion::ToSrgb(depth), &back.bytes);
             count += compare(Conversion::FromSrgb(depth), &picture, &codes);
-            compare(Conversion::ToLumaChroma(depth), &codes, &ycc);
-            compare(Conversion::FromLumaChroma(depth), &ycc, &back);
-            compare(Conversion::ToSrgb(depth), &back, &round);
-            assert_eq!(direct, picture, "straight back at {depth} bits");
-            let before =
-                [&codes, &codes, &codes, &direct, &direct].map(|like| vec![0x5a; like.len()]);
+            compare(Conversion::ToLumaChroma(depth), &codes.bytes, &ycc);
+            compare(Conversion::FromLumaChroma(depth), &ycc.bytes, &back);
+            compare(Conversion::ToSrgb(depth), &back.bytes, &round);
+            assert_eq!(direct.bytes, picture, "straight back at {depth} bits");
+            assert_eq!(direct.clipped, 0, "sRGB holds its own colours");
+            let steps = [&codes, &ycc, &back, &direct, &round];
+            let before = steps.map(|like| vec![0x5a; like.bytes.len()]);
             let (answers, after) = both_runs(depth, &picture, before.each_ref().map(Vec::as_slice));
-            assert_eq!(answers, [Ok(1 << 16); 5]);
-            assert!(after == [&codes, &ycc, &back, &direct, &round].map(Vec::clone));
-            let (codes, back) = (read(&codes, 2), read(&back, 2));
-            for (k, (&a, &x)) in picture.iter().zip(&round).enumerate() {
+            let pixels = 1 << 16;
+            assert_eq!(
+                answers,
+                steps.map(|&Picture { clipped, .. }| Ok(Converted { pixels, clipped }))
+            );
+            assert!(after == steps.map(|step| step.bytes.clone()));
+            let (codes, back) = (read(&codes.bytes, 2), read(&back.bytes, 2));
+            for (k, (&a, &x)) in picture.iter().zip(&round.bytes).enumerate() {
                 assert!((codes[k] - back[k]).abs() <= 1, "within one code");
                 let more = depth == 10 && back[k] == codes[k] + 1 && a < 255;
                 assert_eq!(i64::from(x), i64::from(a) + i64::from(more));
@@ -167,8 +186,8 @@ pub fn pixels_with_edges() -> u64 {
             ] {
                 count += compare(conversion, src, &converted(conversion, src));
             }
-            let ycc = converted(Conversion::ToLumaChroma(depth), &codes);
-            let back = read(&converted(Conversion::FromLumaChroma(depth), &ycc), 2);
+            let ycc = converted(Conversion::ToLumaChroma(depth), &codes).bytes;
+            let back = read(&converted(Conversion::FromLumaChroma(depth), &ycc).bytes, 2);
             for (before, after) in samples.chunks_exact(3).zip(back.chunks_exact(3)) {
                 assert!(before.iter().zip(after).all(|(a, b)| (a - b).abs() <= 1));
                 let grey = before[0] == before[1] && before[1] == before[2];
@@ -232,11 +251,11 @@ const ANY_DEPTH: [u32; 15] = [
 ];
 
 /// A call of Convert by both, over a destination that held `before`. Gives the number of the refusal, if it is refused.
-fn convert_by_both(conversion: Conversion, src: &[u8], before: &[u8]) -> Option<u8> {
+pub fn convert_by_both(conversion: Conversion, src: &[u8], before: &[u8]) -> Option<u8> {
     by_both(
         before,
         0xa5,
-        |dst| kiosk::convert(of_library(conversion), src, dst),
+        |dst| kiosk::convert(of_library(conversion), src, dst).map(counts),
         |dst| convert(conversion, src, dst),
         || format!("{conversion:?} of {src:?}"),
     )
@@ -354,15 +373,21 @@ pub fn every_length() -> u64 {
 }
 
 /// What each of several conversions gives, in order.
-type Answers<const N: usize> = [Result<usize, reference::Refusal>; N];
+type Answers<const N: usize> = [Result<Converted, reference::Refusal>; N];
+
+/// The answer of a conversion that counts no clipped pixels.
+fn unclipped(answer: Result<usize, kiosk::Refusal>) -> Result<Converted, reference::Refusal> {
+    said(answer.map(|pixels| Converted { pixels, clipped: 0 }))
+}
 
 /// Both runs by the library: its answers, and the five destinations after it.
 fn both_runs(depth: u32, picture: &[u8], before: [&[u8]; 5]) -> (Answers<5>, [Vec<u8>; 5]) {
     let (runs, after) = all_guarded(before, 0xa5, |[codes, ycc, back, direct, round]| {
         kiosk::both_runs(depth, picture, codes, ycc, back, direct, round)
     });
-    let answers = [runs.codes, runs.ycc, runs.back, runs.direct, runs.round];
-    (answers.map(said), after)
+    let [codes, ycc, back] = [runs.codes, runs.ycc, runs.back].map(unclipped);
+    let [direct, round] = [runs.direct, runs.round].map(|answer| said(answer.map(counts)));
+    ([codes, ycc, back, direct, round], after)
 }
 
 /// The same by the reference, call by call.
@@ -393,7 +418,7 @@ fn compare_trip(depth: u32, codes: &[u8], before: [&[u8]; 2]) -> Answers<2> {
         convert(Conversion::FromLumaChroma(depth), &ycc, &mut back),
     ];
     assert_eq!(
-        ([said(trip.there), said(trip.again)], after),
+        ([trip.there, trip.again].map(unclipped), after),
         (expected, [ycc, back]),
         "round trip of {codes:?} at {depth} bits over {before:?}"
     );
@@ -402,11 +427,12 @@ fn compare_trip(depth: u32, codes: &[u8], before: [&[u8]; 2]) -> Answers<2> {
 
 /// Short buffers with something in them, of lengths that fit or not, through both runs and round trips: each
 /// conversion is accepted or refused by itself, so all answers and bytes are those of the reference's calls one
-/// after another. Every pattern of accepted and refused conversions occurs.
+/// after another. Every pattern of accepted and refused conversions occurs, and of pixels clipped by the last two.
 pub fn runs_with_refusals() -> u64 {
     const ROUNDS: u64 = 300_000;
     let mut random = Random::new(7);
     let (mut patterns, mut trips) = (BTreeSet::new(), BTreeSet::new());
+    let mut clippings = BTreeSet::new();
     // Mostly `pixels` whole pixels, else another number of them, or any length.
     let length = |random: &mut Random, pixels: u64, bytes: u64| match random.below(16) {
         0 => random.below(4 * bytes),
@@ -445,9 +471,12 @@ pub fn runs_with_refusals() -> u64 {
             "both runs of {picture:?} at {depth} bits over {before:?}"
         );
         patterns.insert(answers.map(|answer| answer.is_ok()));
+        let clipped = |answer: Result<Converted, _>| answer.is_ok_and(|done| done.clipped > 0);
+        clippings.insert([answers[3], answers[4]].map(clipped));
         let answers = compare_trip(depth, before[0], [before[1], before[2]]);
         trips.insert(answers.map(|answer| answer.is_ok()));
     }
     assert_eq!((patterns.len(), trips.len()), (1 << 5, 1 << 2));
+    assert_eq!(clippings.len(), 1 << 2);
     2 * ROUNDS
 }

@@ -94,21 +94,29 @@ int64_t plain_from_srgb(uint32_t depth, const uint8_t *src, size_t src_len, uint
     return (int64_t)(src_len / 3);
 }
 
+/* *clipped gets the number of pixels with a code below black's or above white's. */
 int64_t plain_to_srgb(uint32_t depth, const uint8_t *src, size_t src_len, uint8_t *dst,
-                      size_t dst_len, size_t *place)
+                      size_t dst_len, size_t *place, size_t *clipped)
 {
     int64_t fault = check_lengths(offered(depth), src_len, 2, dst_len, src_len / 2);
     if (fault == 0)
         fault = check_codes(depth, src, dst_len, place);
     if (fault < 0)
         return fault;
-    int32_t shift = (int32_t)depth - 9, half = 1 << (shift - 1);
+    int32_t shift = (int32_t)depth - 9, half = 1 << (shift - 1), white = 255 << shift;
     int32_t offset = (1 << (depth - 2)) + (1 << (depth - 3));
-    for (size_t k = 0; k < dst_len; k++) {
-        int32_t level = (int32_t)sample(src, k) - offset;
-        int32_t a = level < 0 ? 0 : (level + half) >> shift;
-        dst[k] = (uint8_t)(a > 255 ? 255 : a);
+    size_t count = 0;
+    for (size_t k = 0; k < dst_len; k += 3) {
+        int outside = 0;
+        for (size_t j = k; j < k + 3; j++) {
+            int32_t level = (int32_t)sample(src, j) - offset;
+            int32_t a = level < 0 ? 0 : (level + half) >> shift;
+            dst[j] = (uint8_t)(a > 255 ? 255 : a);
+            outside |= level < 0 || level > white;
+        }
+        count += (size_t)outside;
     }
+    *clipped = count;
     return (int64_t)(src_len / 6);
 }
 

@@ -8,7 +8,7 @@
 int64_t plain_from_srgb(uint32_t depth, const uint8_t *src, size_t src_len, uint8_t *dst,
                         size_t dst_len, size_t *place);
 int64_t plain_to_srgb(uint32_t depth, const uint8_t *src, size_t src_len, uint8_t *dst,
-                      size_t dst_len, size_t *place);
+                      size_t dst_len, size_t *place, size_t *clipped);
 int64_t plain_change_depth(uint32_t from, uint32_t to, const uint8_t *src, size_t src_len,
                            uint8_t *dst, size_t dst_len, size_t *place);
 int64_t plain_to_luma_chroma(uint32_t depth, const uint8_t *src, size_t src_len, uint8_t *dst,

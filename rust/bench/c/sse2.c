@@ -94,22 +94,54 @@ int64_t sse2_from_srgb(uint32_t depth, const uint8_t *src, size_t src_len, uint8
     return (int64_t)(src_len / 3);
 }
 
+/* Of 16 pixels, how many have a sample above a limit. */
+static size_t pixels_above(const __m128i samples[6], __m128i limit)
+{
+    uint64_t bits = 0;
+    for (int k = 0; k < 3; k++) {
+        __m128i low = _mm_cmpgt_epi16(samples[2 * k], limit), high = _mm_cmpgt_epi16(samples[2 * k + 1], limit);
+        bits |= (uint64_t)_mm_movemask_epi8(_mm_packs_epi16(low, high)) << (16 * k);
+    }
+    /* A pixel's bits in the lowest of its three; the sums of every two pixels; and of all eight sums, by a product. */
+    uint64_t pixels = (bits | bits >> 1 | bits >> 2) & 0x249249249249u;
+    uint64_t sums = (pixels + (pixels >> 3)) & 0x0c30c30c30c3u;
+    return (size_t)(sums * 0x041041041041u >> 42 & 63);
+}
+
+/* Converts 16 pixels and gives how many are clipped. Black is brought to the least signed number, so that what is
+ * below it wraps around, and all that is clipped is above white. */
+static inline size_t sixteen_to_srgb(const uint8_t *src, uint8_t *dst, __m128i shift, __m128i low,
+                                     __m128i black, __m128i white)
+{
+    __m128i bytes[6], levels[6], greatest = words(32768);
+    for (int k = 0; k < 6; k++) {
+        __m128i x = load(src + 16 * k);
+        bytes[k] = _mm_srl_epi16(_mm_subs_epu16(x, low), shift);
+        levels[k] = _mm_sub_epi16(x, black);
+        greatest = _mm_max_epi16(greatest, levels[k]);
+    }
+    for (int k = 0; k < 3; k++)
+        store(dst + 16 * k, _mm_packus_epi16(bytes[2 * k], bytes[2 * k + 1]));
+    if (_mm_movemask_epi8(_mm_cmpgt_epi16(greatest, white)) == 0)
+        return 0;
+    return pixels_above(levels, white);
+}
+
 int64_t sse2_to_srgb(uint32_t depth, const uint8_t *src, size_t src_len, uint8_t *dst,
-                     size_t dst_len, size_t *place)
+                     size_t dst_len, size_t *place, size_t *clipped)
 {
     if (!offered(depth) || src_len % 6 != 0 || dst_len != src_len / 2
         || !codes_sound(depth, src, src_len))
-        return plain_to_srgb(depth, src, src_len, dst, dst_len, place);
-    size_t bulk = src_len / 96 * 96;
+        return plain_to_srgb(depth, src, src_len, dst, dst_len, place, clipped);
+    size_t bulk = src_len / 96 * 96, count = 0;
     const __m128i shift = _mm_cvtsi32_si128((int)depth - 9);
     /* Half a step below the offset. Packing clips what is above 255. */
     const __m128i low = words((3u << (depth - 3)) - (1u << (depth - 10)));
-    for (size_t i = 0; i < bulk; i += 32) {
-        __m128i a = _mm_srl_epi16(_mm_subs_epu16(load(src + i), low), shift);
-        __m128i b = _mm_srl_epi16(_mm_subs_epu16(load(src + i + 16), low), shift);
-        store(dst + i / 2, _mm_packus_epi16(a, b));
-    }
-    plain_to_srgb(depth, src + bulk, src_len - bulk, dst + bulk / 2, dst_len - bulk / 2, place);
+    const __m128i black = words((3u << (depth - 3)) + 32768), white = words((255u << (depth - 9)) + 32768);
+    for (size_t i = 0; i < bulk; i += 96)
+        count += sixteen_to_srgb(src + i, dst + i / 2, shift, low, black, white);
+    plain_to_srgb(depth, src + bulk, src_len - bulk, dst + bulk / 2, dst_len - bulk / 2, place, clipped);
+    *clipped += count;
     return (int64_t)(src_len / 6);
 }
 

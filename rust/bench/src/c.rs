@@ -5,12 +5,19 @@
 
 use kiosk::{Conversion, Tint};
 
-/// A version's Convert: its answer, or none for a conversion that it does not have.
-pub type Convert = fn(Conversion, &[u8], &mut [u8]) -> Option<i64>;
+/// What a version gives: its answer, and the clipped pixels, which only a conversion to sRGB counts.
+#[derive(Clone, Copy, Debug, PartialEq, Eq)]
+pub struct Given {
+    pub answer: i64,
+    pub clipped: usize,
+}
+
+/// A version's Convert: what it gives, or none for a conversion that it does not have.
+pub type Convert = fn(Conversion, &[u8], &mut [u8]) -> Option<Given>;
 
 /// Declares a version's conversions, and makes a Convert of them. What a version lacks is named.
 macro_rules! convert_by {
-    ($version:ident: $change_depth:ident, $($conversion:ident $name:ident),* $(; lacks $($lacking:ident),*)?) => {
+    ($version:ident: $change_depth:ident, $to_srgb:ident, $($conversion:ident $name:ident),* $(; lacks $($lacking:ident),*)?) => {
         extern "C" {
             fn $change_depth(
                 from: u32,
@@ -20,6 +27,15 @@ macro_rules! convert_by {
                 dst: *mut u8,
                 dst_len: usize,
                 place: *mut usize,
+            ) -> i64;
+            fn $to_srgb(
+                depth: u32,
+                src: *const u8,
+                src_len: usize,
+                dst: *mut u8,
+                dst_len: usize,
+                place: *mut usize,
+                clipped: *mut usize,
             ) -> i64;
             $(fn $name(
                 depth: u32,
@@ -31,28 +47,30 @@ macro_rules! convert_by {
             ) -> i64;)*
         }
 
-        pub fn $version(conversion: Conversion, src: &[u8], dst: &mut [u8]) -> Option<i64> {
-            let mut place = 0;
+        pub fn $version(conversion: Conversion, src: &[u8], dst: &mut [u8]) -> Option<Given> {
+            let (mut place, mut clipped) = (0, 0);
             let (s, n, d, m) = (src.as_ptr(), src.len(), dst.as_mut_ptr(), dst.len());
-            // SAFETY: the pointers and lengths are those of two slices that do not overlap, and of a local.
+            // SAFETY: the pointers and lengths are those of two slices that do not overlap, and of locals.
             let answer = unsafe {
                 match conversion {
                     Conversion::ChangeDepth { from, to } => {
                         $change_depth(from, to, s, n, d, m, &mut place)
                     }
+                    Conversion::ToSrgb { depth } => {
+                        $to_srgb(depth, s, n, d, m, &mut place, &mut clipped)
+                    }
                     $(Conversion::$conversion { depth } => $name(depth, s, n, d, m, &mut place),)*
                     $($(Conversion::$lacking { .. } => return None,)*)?
                 }
             };
-            Some(answer)
+            Some(Given { answer, clipped })
         }
     };
 }
 
 convert_by!(
-    plain: plain_change_depth,
+    plain: plain_change_depth, plain_to_srgb,
     FromSrgb plain_from_srgb,
-    ToSrgb plain_to_srgb,
     ToLumaChroma plain_to_luma_chroma,
     FromLumaChroma plain_from_luma_chroma,
     ToEsycc plain_to_esycc,
@@ -63,9 +81,8 @@ convert_by!(
 
 #[cfg(target_arch = "x86_64")]
 convert_by!(
-    sse2: sse2_change_depth,
+    sse2: sse2_change_depth, sse2_to_srgb,
     FromSrgb sse2_from_srgb,
-    ToSrgb sse2_to_srgb,
     ToLumaChroma sse2_to_luma_chroma,
     FromLumaChroma sse2_from_luma_chroma;
     lacks ToEsycc, FromEsycc, ToSycc, FromSycc
@@ -73,14 +90,16 @@ convert_by!(
 
 /// Other machines have no SSE2.
 #[cfg(not(target_arch = "x86_64"))]
-pub fn sse2(_: Conversion, _: &[u8], _: &mut [u8]) -> Option<i64> {
+pub fn sse2(_: Conversion, _: &[u8], _: &mut [u8]) -> Option<Given> {
     None
 }
 
+// An earlier library may count no clipped pixels, and takes one argument less to sRGB. That one stands on the stack,
+// where it does not look, so that both are called in the same way; but what `before` says of clipped pixels is nothing
+// to compare.
 convert_by!(
-    before: before_change_depth,
+    before: before_change_depth, before_to_srgb,
     FromSrgb before_from_srgb,
-    ToSrgb before_to_srgb,
     ToLumaChroma before_to_luma_chroma,
     FromLumaChroma before_from_luma_chroma;
     lacks ToEsycc, FromEsycc, ToSycc, FromSycc

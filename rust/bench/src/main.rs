@@ -8,13 +8,16 @@ mod buffer;
 mod c;
 
 use buffer::Buffer;
-use kiosk::{Conversion, Tint};
+use kiosk::{Conversion, Converted, Refusal, Tint};
 use std::hint::black_box;
 use std::num::NonZeroUsize;
 use std::time::Instant;
 
 /// Pixels that stay in the cache, a million of them, and more than any cache holds.
 const SIZES: [usize; 3] = [20_000, 1_000_000, 8_000_000];
+
+/// The width of an operation's name in a table.
+const NAME: usize = 23;
 
 /// A way to compute an operation's result: its answer is the pixel count.
 type Version<'a, T> = &'a dyn Fn(&mut [T]) -> i64;
@@ -58,6 +61,11 @@ fn agreed<T: Copy + Default + PartialEq>(
     expected
 }
 
+/// A goal in a table, where there may be none.
+fn shown(goal: Option<f64>) -> String {
+    goal.map_or("-".into(), |goal| format!("{goal:.2}"))
+}
+
 /// What one operation takes: by the library, by plain C, by hand, and a copy of as many bytes as it writes.
 struct Times {
     library: f64,
@@ -96,11 +104,9 @@ impl Times {
 
     fn print(&self, operation: &Operation, pixels: usize) {
         let sse2 = self.sse2.map_or("-".into(), |sse2| format!("{sse2:.3}"));
-        let goal = operation
-            .goal
-            .map_or("-".into(), |goal| format!("{goal:.2}"));
+        let goal = shown(operation.goal);
         println!(
-            "{:<20} {pixels:>9} {:>8.3} {:>8.3} {sse2:>8} {:>8.2} {goal:>6} {:>9.2}",
+            "{:<NAME$} {pixels:>9} {:>8.3} {:>8.3} {sse2:>8} {:>8.2} {goal:>6} {:>9.2}",
             operation.name,
             self.library,
             self.plain,
@@ -134,44 +140,91 @@ fn photograph(pixels: usize) -> Vec<u8> {
         .collect()
 }
 
-/// The photograph in the form that a conversion reads.
-fn picture(conversion: Conversion, pixels: usize) -> Vec<u8> {
+/// The photograph with more contrast: much of it is black or white, and none of it beyond.
+fn full_range(pixels: usize) -> Vec<u8> {
+    let stretched = |value: u8| (2 * i32::from(value) - 128).clamp(0, 255) as u8;
+    photograph(pixels).into_iter().map(stretched).collect()
+}
+
+/// What is converted.
+#[derive(Clone, Copy, Debug, PartialEq, Eq)]
+enum Source {
+    Photograph,
+    FullRange,
+    AnyColours,
+}
+
+impl Source {
+    /// So many pixels in the form that a conversion reads.
+    fn of(self, conversion: Conversion, pixels: usize) -> Vec<u8> {
+        match self {
+            Source::Photograph => in_form(conversion, photograph(pixels)),
+            Source::FullRange => in_form(conversion, full_range(pixels)),
+            Source::AnyColours => any_colours(conversion, pixels),
+        }
+    }
+}
+
+/// A picture of sRGB in the form that a conversion reads.
+fn in_form(conversion: Conversion, srgb: Vec<u8>) -> Vec<u8> {
     let step = |conversion: Conversion, src: Vec<u8>| {
         let mut dst = vec![0; conversion.needed(src.len())];
-        kiosk::convert(conversion, &src, &mut dst).expect("a sound picture is converted");
+        converted(kiosk::convert(conversion, &src, &mut dst));
         dst
     };
-    let srgb = photograph(pixels);
-    let codes = |depth, srgb| step(Conversion::FromSrgb { depth }, srgb);
+    let codes = |depth| step(Conversion::FromSrgb { depth }, srgb.clone());
     match conversion {
         Conversion::FromSrgb { .. } => srgb,
         Conversion::ToSrgb { depth }
         | Conversion::ChangeDepth { from: depth, .. }
         | Conversion::ToLumaChroma { depth }
         | Conversion::ToEsycc { depth }
-        | Conversion::ToSycc { depth } => codes(depth, srgb),
+        | Conversion::ToSycc { depth } => codes(depth),
         Conversion::FromLumaChroma { depth } => {
-            step(Conversion::ToLumaChroma { depth }, codes(depth, srgb))
+            step(Conversion::ToLumaChroma { depth }, codes(depth))
         }
-        Conversion::FromEsycc { depth } => step(Conversion::ToEsycc { depth }, codes(depth, srgb)),
-        Conversion::FromSycc { depth } => step(Conversion::ToSycc { depth }, codes(depth, srgb)),
+        Conversion::FromEsycc { depth } => step(Conversion::ToEsycc { depth }, codes(depth)),
+        Conversion::FromSycc { depth } => step(Conversion::ToSycc { depth }, codes(depth)),
     }
 }
 
 fn codes(depth: u32, pixels: usize) -> Vec<u8> {
-    picture(Conversion::ToSrgb { depth }, pixels)
+    Source::Photograph.of(Conversion::ToSrgb { depth }, pixels)
 }
 
-fn answer(result: Result<usize, impl std::fmt::Debug>) -> i64 {
+fn answer(result: Result<usize, Refusal>) -> i64 {
     result.expect("a sound picture is converted") as i64
 }
 
-/// Samples that no picture has: any numbers but 0, so that most pixels of luma and chroma are clipped on the way back.
+fn converted(result: Result<Converted, Refusal>) -> i64 {
+    answer(result.map(|done| done.pixels))
+}
+
+/// Samples that no picture has: any numbers but 0, so that most pixels of luma and chroma are clipped on the way back,
+/// and most of e-sRGB on the way to sRGB.
 fn any_samples(depth: u32, pixels: usize) -> Vec<u8> {
     noise(3 * pixels)
         .map(|x| (x % ((1 << depth) - 1)) as u16 + 1)
         .flat_map(u16::to_le_bytes)
         .collect()
+}
+
+/// So many pixels of any samples, in the form that a conversion reads.
+fn any_colours(conversion: Conversion, pixels: usize) -> Vec<u8> {
+    match conversion {
+        Conversion::FromSrgb { .. } | Conversion::FromSycc { .. } => {
+            let mut bytes = any_samples(16, pixels);
+            bytes.truncate(3 * pixels);
+            bytes
+        }
+        Conversion::ToSrgb { depth }
+        | Conversion::ChangeDepth { from: depth, .. }
+        | Conversion::ToLumaChroma { depth }
+        | Conversion::FromLumaChroma { depth }
+        | Conversion::ToEsycc { depth }
+        | Conversion::FromEsycc { depth }
+        | Conversion::ToSycc { depth } => any_samples(depth, pixels),
+    }
 }
 
 /// Does a version have a conversion? It then converts an empty picture.
@@ -183,26 +236,40 @@ fn time_conversion(conversion: Conversion, src: &[u8], pixels: usize) -> Times {
     let src = Buffer::source(src);
     let room = conversion.needed(src.len());
     let src = &src;
-    let library = |dst: &mut [u8]| answer(kiosk::convert(conversion, src, dst));
-    let by = |version: c::Convert| {
-        move |dst: &mut [u8]| version(conversion, src, dst).expect("the version has it")
-    };
+    let library = |dst: &mut [u8]| converted(kiosk::convert(conversion, src, dst));
+    let by =
+        |version: c::Convert| move |dst: &mut [u8]| given(version, conversion, src, dst).answer;
     let (plain, sse2) = (by(c::plain), by(c::sse2));
     let mut versions: Vec<Version<u8>> = vec![&library, &plain];
+    check_clipped(c::plain, conversion, src);
     if has(c::sse2, conversion) {
         versions.push(&sse2);
+        check_clipped(c::sse2, conversion, src);
     }
     Times::of(pixels, room, &versions)
 }
 
+fn given(version: c::Convert, conversion: Conversion, src: &[u8], dst: &mut [u8]) -> c::Given {
+    version(conversion, src, dst).expect("the version has it")
+}
+
+/// A version that is timed must count what the library counts.
+fn check_clipped(version: c::Convert, conversion: Conversion, src: &[u8]) {
+    let mut dst = vec![0; conversion.needed(src.len())];
+    let done = kiosk::convert(conversion, src, &mut dst).expect("a sound picture is converted");
+    let clipped = given(version, conversion, src, &mut dst).clipped;
+    assert_eq!(clipped, done.clipped, "a version counts otherwise");
+}
+
 /// A conversion by the library before, if it has it, and by this one, which must write the same bytes.
-fn before_and_after(conversion: Conversion, pixels: usize) -> Option<[f64; 2]> {
+fn before_and_after(conversion: Conversion, source: Source, pixels: usize) -> Option<[f64; 2]> {
     if !has(c::before, conversion) {
         return None;
     }
-    let src = Buffer::source(&picture(conversion, pixels));
-    let before = |dst: &mut [u8]| c::before(conversion, &src, dst).expect("the version has it");
-    let after = |dst: &mut [u8]| answer(kiosk::convert(conversion, &src, dst));
+    let src = Buffer::source(&source.of(conversion, pixels));
+    // The clipped pixels are not compared: the library before may not count them.
+    let before = |dst: &mut [u8]| given(c::before, conversion, &src, dst).answer;
+    let after = |dst: &mut [u8]| converted(kiosk::convert(conversion, &src, dst));
     let versions: [Version<u8>; 2] = [&before, &after];
     let mut dst = Buffer::destination(conversion.needed(src.len()));
     agreed(pixels, &mut dst, &versions);
@@ -215,8 +282,8 @@ fn down_over_up(pixels: usize) -> f64 {
     let change = |from, to| Conversion::ChangeDepth { from, to };
     let twelve = Buffer::source(&codes(12, pixels));
     let ten = Buffer::source(&codes(10, pixels));
-    let down = |dst: &mut [u8]| answer(kiosk::convert(change(12, 10), &twelve, dst));
-    let up = |dst: &mut [u8]| answer(kiosk::convert(change(10, 12), &ten, dst));
+    let down = |dst: &mut [u8]| converted(kiosk::convert(change(12, 10), &twelve, dst));
+    let up = |dst: &mut [u8]| converted(kiosk::convert(change(10, 12), &ten, dst));
     let mut dst = Buffer::destination(6 * pixels);
     let times = best(pixels, &mut dst, &[&down, &up]);
     times[0] / times[1]
@@ -303,8 +370,7 @@ fn fill_thresholds(depth: u32, offset: u16, thresholds: &mut [u32]) {
 }
 
 enum Call {
-    Convert(Conversion),
-    BackFromAny(u32),
+    Convert(Conversion, Source),
     CodeToLight(u32),
     LightToCode(u32),
     /// Tints of a kind, which red, green and blue from 0 to 1 are made to.
@@ -313,6 +379,9 @@ enum Call {
 
 /// The most nanoseconds that a tint may take.
 const TINT_LIMIT: f64 = 1000.0;
+
+/// How long e-sRGB to sRGB may take, in times of the library that did not count clipped pixels yet.
+const COUNT_LIMIT: f64 = 1.5;
 
 /// How long depth down may take, in times of depth up between the same two depths.
 const DOWN_LIMIT: f64 = 1.25;
@@ -327,12 +396,8 @@ struct Operation {
 impl Operation {
     fn time(&self, pixels: usize) -> Times {
         match self.call {
-            Call::Convert(conversion) => {
-                time_conversion(conversion, &picture(conversion, pixels), pixels)
-            }
-            Call::BackFromAny(depth) => {
-                let src = any_samples(depth, pixels);
-                time_conversion(Conversion::FromLumaChroma { depth }, &src, pixels)
+            Call::Convert(conversion, source) => {
+                time_conversion(conversion, &source.of(conversion, pixels), pixels)
             }
             Call::CodeToLight(depth) => time_code_to_light(depth, pixels),
             Call::LightToCode(depth) => time_light_to_code(depth, pixels),
@@ -397,19 +462,37 @@ fn depth_change(from: u32, to: u32) -> (String, Conversion) {
     (name, Conversion::ChangeDepth { from, to })
 }
 
+/// Conversions of a source, at some depths. They have no goal beside C.
+fn of_source(
+    source: Source,
+    depths: &[u32],
+    of_depth: fn(u32) -> (String, Conversion),
+) -> Vec<Operation> {
+    let operation = |(name, conversion)| Operation {
+        name,
+        goal: None,
+        call: Call::Convert(conversion, source),
+    };
+    depths.iter().map(|&d| operation(of_depth(d))).collect()
+}
+
 fn operations() -> Vec<Operation> {
     let operation = |name, goal, call| Operation { name, goal, call };
     let mut all = Vec::new();
     for (goal, depths, of_depth) in CONVERSIONS {
         for (name, conversion) in depths.iter().copied().map(of_depth) {
-            all.push(operation(name, Some(goal), Call::Convert(conversion)));
+            let call = Call::Convert(conversion, Source::Photograph);
+            all.push(operation(name, Some(goal), call));
         }
     }
-    all.push(operation(
-        "back 10, any colours".into(),
-        None,
-        Call::BackFromAny(10),
-    ));
+    all.extend(of_source(Source::AnyColours, &[10, 16], |depth| {
+        let name = format!("{depth} to sRGB, any colours");
+        (name, Conversion::ToSrgb { depth })
+    }));
+    all.extend(of_source(Source::AnyColours, &[10], |depth| {
+        let name = format!("back {depth}, any colours");
+        (name, Conversion::FromLumaChroma { depth })
+    }));
     for depth in [10, 12] {
         let name = format!("code {depth} to light");
         all.push(operation(name, Some(1.5), Call::CodeToLight(depth)));
@@ -447,7 +530,7 @@ fn sizes(words: impl Iterator<Item = String>, or: &[usize]) -> Vec<usize> {
 fn compare(operations: &[Operation], sizes: &[usize]) {
     println!("ns a pixel, the best of 11 to 101 rounds, checks of the input included; / is the library's time over the other's");
     println!(
-        "{:<20} {:>9} {:>8} {:>8} {:>8} {:>8} {:>6} {:>9}",
+        "{:<NAME$} {:>9} {:>8} {:>8} {:>8} {:>8} {:>6} {:>9}",
         "operation", "pixels", "library", "plain C", "SSE2 C", "/ C", "goal", "/ memcpy"
     );
     let mut missed = Vec::new();
@@ -460,56 +543,82 @@ fn compare(operations: &[Operation], sizes: &[usize]) {
             }
         }
         let down = down_over_up(pixels);
-        println!("12 to 10 / 10 to 12  {pixels:>9} {down:>8.2} {DOWN_LIMIT:>33.2}");
+        let name = "12 to 10 / 10 to 12";
+        println!("{name:<NAME$} {pixels:>9} {down:>8.2} {DOWN_LIMIT:>33.2}");
         if DOWN_LIMIT < down {
-            missed.push(format!("12 to 10 / 10 to 12 at {pixels}"));
+            missed.push(format!("{name} at {pixels}"));
         }
     }
+    print_missed(&missed);
+}
+
+fn print_missed(missed: &[String]) {
     println!("goals missed: {}", missed.len());
     for miss in missed {
         println!("  {miss}");
     }
 }
 
-/// Times every conversion that the library before has, by it and by this one.
+/// How long a conversion may take, in times of the library before: what is inside sRGB's gamut, on the way to sRGB.
+fn goal_over_before(conversion: Conversion, source: Source) -> Option<f64> {
+    let counts = matches!(conversion, Conversion::ToSrgb { .. });
+    (counts && source != Source::AnyColours).then_some(COUNT_LIMIT)
+}
+
+/// Times every conversion that the library before has, by it and by this one, and says which take longer than their
+/// goal.
 fn compare_with_before(operations: &[Operation], sizes: &[usize]) {
     println!("ns a pixel, the best of 11 to 101 rounds, checks of the input included");
     println!(
-        "{:<20} {:>9} {:>8} {:>8} {:>14}",
-        "operation", "pixels", "before", "after", "after / before"
+        "{:<NAME$} {:>9} {:>8} {:>8} {:>14} {:>6}",
+        "operation", "pixels", "before", "after", "after / before", "goal"
     );
+    let mut missed = Vec::new();
     for &pixels in sizes {
         for operation in operations {
-            let Call::Convert(conversion) = operation.call else {
+            let Call::Convert(conversion, source) = operation.call else {
                 continue;
             };
-            if let Some([before, after]) = before_and_after(conversion, pixels) {
-                let (name, ratio) = (&operation.name, after / before);
-                println!("{name:<20} {pixels:>9} {before:>8.3} {after:>8.3} {ratio:>14.2}");
+            let Some([before, after]) = before_and_after(conversion, source, pixels) else {
+                continue;
+            };
+            let (name, ratio) = (&operation.name, after / before);
+            let goal = goal_over_before(conversion, source);
+            println!(
+                "{name:<NAME$} {pixels:>9} {before:>8.3} {after:>8.3} {ratio:>14.2} {:>6}",
+                shown(goal)
+            );
+            if goal.is_some_and(|goal| goal < ratio) {
+                missed.push(format!("{name} at {pixels}"));
             }
         }
     }
+    print_missed(&missed);
 }
 
 fn show_growth(operations: &[Operation]) {
     println!("\nhow the library's time grows with size, ns a pixel");
     let sizes = [100, 1_000, 10_000, 100_000, 1_000_000];
     println!(
-        "{:<20} {}",
+        "{:<NAME$} {}",
         "pixels",
         sizes.map(|pixels| format!("{pixels:>9}")).join(" ")
     );
     for operation in operations.iter().filter(|o| o.name.contains("10")) {
         let times = sizes.map(|pixels| format!("{:>9.3}", operation.time(pixels).library));
-        println!("{:<20} {}", operation.name, times.join(" "));
+        println!("{:<NAME$} {}", operation.name, times.join(" "));
     }
 }
 
 fn main() {
     set_tables();
-    let operations = operations();
+    let mut operations = operations();
     let mut words = std::env::args().skip(1).peekable();
     if words.next_if(|word| word == "before").is_some() {
+        operations.extend(of_source(Source::FullRange, &[10, 12, 16], |depth| {
+            let name = format!("{depth} to sRGB, full range");
+            (name, Conversion::ToSrgb { depth })
+        }));
         return compare_with_before(&operations, &sizes(words, &[1_000_000]));
     }
     let sizes = sizes(words, &SIZES);
@@ -523,60 +632,82 @@ fn main() {
 mod tests {
     use super::*;
 
-    /// Samples that no picture has, in the form that a conversion reads; of one-byte samples more than `pixels`.
-    fn any_source(conversion: Conversion, pixels: usize) -> Vec<u8> {
-        match conversion {
-            Conversion::FromSrgb { .. } | Conversion::FromSycc { .. } => any_samples(16, pixels),
-            Conversion::ToSrgb { depth }
-            | Conversion::ChangeDepth { from: depth, .. }
-            | Conversion::ToLumaChroma { depth }
-            | Conversion::FromLumaChroma { depth }
-            | Conversion::ToEsycc { depth }
-            | Conversion::FromEsycc { depth }
-            | Conversion::ToSycc { depth } => any_samples(depth, pixels),
+    /// The start of a source, sometimes with the greatest code or a sample that no code is, and on the way to sRGB with
+    /// black, white and the codes beyond them.
+    fn disturbed(
+        conversion: Conversion,
+        source: &[u8],
+        next: &mut impl FnMut(usize) -> usize,
+    ) -> Vec<u8> {
+        let mut src = source.to_vec();
+        if let Conversion::ToSrgb { depth } = conversion {
+            let (black, white) = (3 << (depth - 3), (3 << (depth - 3)) + (255 << (depth - 9)));
+            for sample in src.chunks_exact_mut(2) {
+                if next(8) == 0 {
+                    let code: u16 = [black - 1, black, white, white + 1][next(4)];
+                    sample.copy_from_slice(&code.to_le_bytes());
+                }
+            }
         }
+        if !src.is_empty() && next(3) == 0 {
+            let (at, last) = (next(src.len()) / 2 * 2, src.len() - 1);
+            src[at] = [0, 255][next(2)];
+            src[(at + 1).min(last)] = [0, 3, 15, 255][next(4)];
+        }
+        src
     }
 
-    /// Sources of every length up to 40 pixels and a byte, of a picture and of any samples, some with the greatest code
-    /// and some with samples that no code is: each version gives the library's answer and bytes for what it has, and
-    /// the library before does, if `KIOSK_BEFORE` names one.
+    /// Converts by the library and by each version that has the conversion, which must give the same answer, bytes and
+    /// clipped pixels. The library before is not asked for these. Gives what the library gives.
+    fn agree(conversion: Conversion, src: &[u8]) -> Result<Converted, Refusal> {
+        let room = conversion.needed(src.len());
+        let mut dst = vec![7; room];
+        let done = kiosk::convert(conversion, src, &mut dst);
+        let (expected, clipped) = match done {
+            Ok(done) => (done.pixels as i64, done.clipped),
+            Err(refusal) => (-i64::from(refusal.fault.number()), 0),
+        };
+        let versions: [(c::Convert, bool); 3] =
+            [(c::plain, true), (c::sse2, true), (c::before, false)];
+        for (version, counts) in versions {
+            let mut other = vec![7; room];
+            let Some(found) = version(conversion, src, &mut other) else {
+                continue;
+            };
+            assert_eq!(found.answer, expected, "{conversion:?} of {src:?}");
+            assert!(other == dst, "{conversion:?} of {src:?}");
+            assert!(
+                !counts || found.clipped == clipped,
+                "{conversion:?} of {src:?} clips {clipped}, and not {}",
+                found.clipped
+            );
+        }
+        done
+    }
+
+    /// Sources of every length up to 40 pixels and a byte, of pictures and of any samples: the C versions agree with the
+    /// library, and the library before does, if `KIOSK_BEFORE` names one.
     #[test]
     fn the_c_versions_agree_with_the_library() {
         let mut numbers = noise(usize::MAX);
-        let mut next = move |below: u64| numbers.next().expect("there is always one more") % below;
-        let mut refused = 0;
+        let mut next = |below: usize| numbers.next().expect("one more") as usize % below;
+        let (mut refused, mut clipped) = (0, 0);
         for operation in operations() {
-            let Call::Convert(conversion) = operation.call else {
+            let Call::Convert(conversion, source) = operation.call else {
                 continue;
             };
-            let sources = [picture(conversion, 81), any_source(conversion, 81)];
-            let mut versions: Vec<c::Convert> = vec![c::plain, c::sse2, c::before];
-            versions.retain(|&version| has(version, conversion));
-            for (source, len) in sources
-                .iter()
-                .flat_map(|s| (0..=241).map(move |len| (s, len)))
-            {
-                let mut src = source[..len].to_vec();
-                if len > 0 && next(3) == 0 {
-                    let at = next(len as u64) as usize / 2 * 2;
-                    src[at] = [0, 255][next(2) as usize];
-                    src[(at + 1).min(len - 1)] = [0, 3, 15, 255][next(4) as usize];
-                }
-                let room = conversion.needed(len);
-                let mut dst = vec![7; room];
-                let expected = match kiosk::convert(conversion, &src, &mut dst) {
-                    Ok(pixels) => pixels as i64,
-                    Err(refusal) => -i64::from(refusal.fault.number()),
-                };
-                refused += usize::from(expected < 0);
-                for version in &versions {
-                    let mut other = vec![7; room];
-                    assert_eq!(version(conversion, &src, &mut other), Some(expected));
-                    assert!(other == dst, "{conversion:?} of {len} bytes");
+            for source in [source, Source::AnyColours].map(|source| source.of(conversion, 81)) {
+                for len in 0..=241 {
+                    let src = disturbed(conversion, &source[..len], &mut next);
+                    match agree(conversion, &src) {
+                        Ok(done) => clipped += done.clipped,
+                        Err(_) => refused += 1,
+                    }
                 }
             }
         }
         assert!(refused > 100, "only {refused} sources were refused");
+        assert!(clipped > 100, "only {clipped} pixels were clipped");
     }
 
     /// Doubles of any bits, near the codes and halfway between them: plain C gives the library's answer and pixel.

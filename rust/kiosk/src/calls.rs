@@ -173,6 +173,10 @@ fn given(answer: i64, place: usize) -> Given {
     }
 }
 
+fn with_clipped(given: Given, clipped: usize) -> Given {
+    Given { clipped, ..given }
+}
+
 /// What a call gives that may write a place.
 fn placed(call: impl FnOnce(&mut usize) -> i64) -> Given {
     let mut place = UNWRITTEN;
@@ -193,7 +197,7 @@ pub fn convert(conversion: Conversion, src: &[u8], dst: &mut [u8]) -> Given {
             // SAFETY: as of a change of depth, and of one more local.
             let given =
                 placed(|place| unsafe { c::kiosk_to_srgb(depth, s, n, d, m, place, count) });
-            return Given { clipped, ..given };
+            return with_clipped(given, clipped);
         }
         Conversion::FromSrgb { depth } => (depth, c::kiosk_from_srgb),
         Conversion::ToLumaChroma { depth } => (depth, c::kiosk_to_luma_chroma),
@@ -266,10 +270,7 @@ pub fn both_runs(
     }
     // The last two are conversions to sRGB.
     let clipped = [0, 0, 0, clipped[0], clipped[1]];
-    std::array::from_fn(|k| Given {
-        clipped: clipped[k],
-        ..given(answers[k], places[k])
-    })
+    std::array::from_fn(|k| with_clipped(given(answers[k], places[k]), clipped[k]))
 }
 
 pub fn code_to_light(depth: u32, src: &[u8], dst: &mut [i32]) -> Given {

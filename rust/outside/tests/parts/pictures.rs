@@ -89,6 +89,16 @@ pub fn every_sample() -> u64 {
     count
 }
 
+/// `both_runs` of a sound picture gives what the five conversions give one after another.
+fn compare_both_runs(depth: u32, picture: &[u8], steps: [&Picture; 5]) {
+    let before = steps.map(|like| vec![0x5a; like.bytes.len()]);
+    let (answers, after) = both_runs(depth, picture, before.each_ref().map(Vec::as_slice));
+    let pixels = picture.len() / 3;
+    let expected = steps.map(|&Picture { clipped, .. }| Ok(Converted { pixels, clipped }));
+    assert_eq!(answers, expected);
+    assert!(after == steps.map(|step| step.bytes.clone()));
+}
+
 /// All sRGB pixels through the five conversions of rule 5.2 at each depth: each conversion against the reference,
 /// rule 5.2 itself on what comes back, and the same by `both_runs` in one call.
 pub fn every_srgb_pixel() -> u64 {
@@ -110,15 +120,7 @@ pub fn every_srgb_pixel() -> u64 {
             compare(Conversion::ToSrgb(depth), &back.bytes, &round);
             assert_eq!(direct.bytes, picture, "straight back at {depth} bits");
             assert_eq!(direct.clipped, 0, "sRGB holds its own colours");
-            let steps = [&codes, &ycc, &back, &direct, &round];
-            let before = steps.map(|like| vec![0x5a; like.bytes.len()]);
-            let (answers, after) = both_runs(depth, &picture, before.each_ref().map(Vec::as_slice));
-            let pixels = 1 << 16;
-            assert_eq!(
-                answers,
-                steps.map(|&Picture { clipped, .. }| Ok(Converted { pixels, clipped }))
-            );
-            assert!(after == steps.map(|step| step.bytes.clone()));
+            compare_both_runs(depth, &picture, [&codes, &ycc, &back, &direct, &round]);
             let (codes, back) = (read(&codes.bytes, 2), read(&back.bytes, 2));
             for (k, (&a, &x)) in picture.iter().zip(&round.bytes).enumerate() {
                 assert!((codes[k] - back[k]).abs() <= 1, "within one code");

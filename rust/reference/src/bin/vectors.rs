@@ -40,7 +40,7 @@ fn two_frames() -> Vec<u8> {
     file
 }
 
-fn main() {
+fn depths() {
     let depths = [
         (10, 12, 1023),
         (12, 10, 1538),
@@ -55,7 +55,10 @@ fn main() {
             samples::change_depth(from, to, code)
         );
     }
-    // Black and white of each depth, each with the code beyond it.
+}
+
+/// Black and white of each depth, each with the code beyond it.
+fn clipped() {
     let ends = [
         (10, [383, 384, 894, 895]),
         (12, [1535, 1536, 3576, 3577]),
@@ -67,6 +70,9 @@ fn main() {
             println!("srgb {depth} {code} {sample} {}", u8::from(clipped));
         }
     }
+}
+
+fn runs() {
     let blue = [0, 0, 255];
     for depth in [10, 12] {
         let codes = blue.map(|sample| samples::from_srgb(depth, sample));
@@ -80,6 +86,9 @@ fn main() {
             row.iter().map(i64::to_string).collect::<Vec<_>>().join(" ")
         );
     }
+}
+
+fn spools() {
     for width in [8192, 8193] {
         let file = spool_with(1, width, 28 + 3 * 8192);
         let refusal = spool::find(&file, 0).map_or_else(|refusal| refusal.number, |_| 0);
@@ -100,6 +109,9 @@ fn main() {
             Err(refusal) => println!("step refused {} {next}", refusal.number),
         }
     }
+}
+
+fn patches() {
     // Y of the table, in hundred-thousandths as printed there.
     for y in [0, 1010, 3030, 7071, 14141, 29293, 59596, 79798, 100000] {
         let light = 10 * y;
@@ -109,4 +121,12 @@ fn main() {
             light::to_code(12, light)
         );
     }
+}
+
+fn main() {
+    depths();
+    clipped();
+    runs();
+    spools();
+    patches();
 }

@@ -171,7 +171,10 @@ fn run(words: &[OsString]) -> Result<(), Failure> {
     if words.iter().any(|word| word == "--help" || word == "-h") {
         return print(USAGE);
     }
-    let words = Words::sorted(rest)?;
+    run_command(command, &Words::sorted(rest)?)
+}
+
+fn run_command(command: &OsStr, words: &Words) -> Result<(), Failure> {
     match (command.to_str(), words.plain.as_slice()) {
         (Some("list"), [file]) => {
             words.only(&[])?;

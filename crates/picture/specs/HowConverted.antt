@@ -49,7 +49,7 @@ narrowed n src = bytesOf false (map (applied (sample.ToEight (cutOf n))) (sample
 
 -- How many pixels are brought to sRGB at a time.
 abbrev pub blockSize : ℕ
-blockSize = 2048
+blockSize = 16384
 
 -- Is one of them outside of what sRGB holds? And is a pixel?
 unfoldable pub someOutside : Gamut → List ℕ → Bool

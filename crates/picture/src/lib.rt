@@ -144,7 +144,7 @@ fn is_clipped(gamut: Gamut, p: Pixel) -> bool
 }
 
 // How many pixels are brought to sRGB at a time. If none of them is clipped, they are not looked at again.
-const BLOCK: usize = 2048;
+const BLOCK: usize = 16384;
 
 // The clipped pixels of a block. A compiler counts several at once in 32 bits, and not in 64.
 fn count_clipped(gamut: Gamut, src: &[u8]) -> u32

@@ -85,14 +85,22 @@ pub fn pictures() -> u64 {
     count
 }
 
-/// Numbers of pixels around those at which a block of a loop may end.
+/// How many pixels the library brings to sRGB at a time.
+const BLOCK: usize = 16_384;
+
+/// Numbers of pixels: few, and around those at which a loop or a block may end.
 fn sizes() -> impl Iterator<Item = usize> {
     (0..=70)
         .chain(255..=260)
         .chain(511..=514)
         .chain(1023..=1026)
-        .chain(2047..=2050)
-        .chain(4095..=4098)
+        .chain(BLOCK - 1..=BLOCK + 2)
+        .chain(2 * BLOCK - 1..=2 * BLOCK + 1)
+}
+
+/// The pixels of a picture that are clipped one by one: all of a small one, and those beside the ends of blocks.
+fn looked_at(size: usize) -> impl Iterator<Item = usize> {
+    (0..size).filter(move |k| size < 2_000 || (k + 3) % BLOCK < 6 || k + 3 >= size)
 }
 
 /// The library's conversion, over a destination that is used again.
@@ -118,12 +126,12 @@ fn put(src: &mut [u8], sample: usize, code: i64) -> i64 {
     i64::from(held)
 }
 
-/// A picture in which no pixel is clipped, with each sample by itself replaced by one that is.
+/// A picture in which no pixel is clipped, with samples replaced by one that is, each by itself.
 fn one_by_one(depth: u32, src: &mut [u8]) {
     let mut expected = vec![0; src.len() / 2];
     assert_eq!(clipped_into(&mut expected, depth, src), 0);
     let mut after = expected.clone();
-    for k in 0..expected.len() {
+    for k in looked_at(src.len() / 6).flat_map(|pixel| 3 * pixel..3 * pixel + 3) {
         let code = clipped_code(depth, k / 3);
         let held = put(src, k, code);
         let byte = std::mem::replace(&mut expected[k], samples::to_srgb(depth, code).0 as u8);
@@ -134,8 +142,8 @@ fn one_by_one(depth: u32, src: &mut [u8]) {
     }
 }
 
-/// Pictures of black and white alone, in which exactly one pixel is clipped, at each position and by its first, second
-/// or third channel; and in which every pixel is.
+/// Pictures of black and white alone, in which exactly one pixel is clipped, at each position that is looked at and by its
+/// first, second or third channel; and in which every pixel is.
 pub fn positions() -> u64 {
     let mut count = 0;
     for depth in DEPTHS {
@@ -147,7 +155,7 @@ pub fn positions() -> u64 {
                 put(&mut src, 3 * k + k % 3, clipped_code(depth, k));
             }
             assert_eq!(clipped_into(&mut vec![0; 3 * size], depth, &src), size);
-            count += 3 * size as u64 + 2;
+            count += 3 * looked_at(size).count() as u64 + 2;
         }
     }
     count

@@ -89,8 +89,8 @@ int64_t kiosk_from_srgb(uint32_t depth, const uint8_t *src, size_t src_len,
                         uint8_t *dst, size_t dst_len, size_t *place);
 
 /* Converts e-sRGB of the given depth to 8-bit sRGB, clipping what sRGB does not hold. *clipped gets the number
- * of pixels with a channel whose code is below black's or above white's (rule 1.7), whatever rounding makes of
- * it: at 10 bits, below 384 or above 894. */
+ * of pixels with a channel whose code is below black's or above white's (rules 1.9, 4.6), whatever rounding makes
+ * of it: at 10 bits, below 384 or above 894. */
 int64_t kiosk_to_srgb(uint32_t depth, const uint8_t *src, size_t src_len,
                       uint8_t *dst, size_t dst_len, size_t *place, size_t *clipped);
 

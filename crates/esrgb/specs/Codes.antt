@@ -1,4 +1,4 @@
--- One sample between 8-bit sRGB and e-sRGB, and from one depth to another (rules 1.6 to 1.8 and 1.10; PIMA 7667, A1 and A2).
+-- One sample between 8-bit sRGB and e-sRGB, and from one depth to another (rules 1.6 to 1.9; PIMA 7667, A1 and A2).
 -- Assumes nothing.
 use Prim.Native.Nat.{ℕ, _+_, _-_, _*_, _^_, min}
 use mathlib.Core.Bool.{cond, _||_}
@@ -12,7 +12,7 @@ unfoldable pub fromSrgb : ℕ → ℕ → ℕ
 fromSrgb n a = step n * a + offset n
 
 -- Rule 1.7: the level over the step, nearest, ties upward, clipped to 8 bits. A difference of ℕ stops at 0, which clips negative levels.
--- Rule 1.10: whether the code itself is below that of black or above that of white, whatever rounding makes of it.
+-- Rule 1.9: whether the code itself is below that of black or above that of white, whatever rounding makes of it.
 unfoldable pub toSrgb : ℕ → ℕ → SrgbSample
 toSrgb n code =
     record { value = min 255 (nearest (code - offset n) (step n)); clipped = ltb code (offset n) || ltb (offset n + scale n) code }

@@ -10,7 +10,7 @@ use lib.Signed.{mag, ltZ}
 use mir.Syntax.{Width}
 use mir.Val.{SFits, hbits}
 use borrow.Author.Tests.{lt-ltb, le-ltb}
-use Rattle.numbers.specs.Ranks.{rank}
+use Rattle.numbers.specs.HowRanked.{rank}
 
 -- The signed number of rank x.
 abbrev pub ranked : ℕ → ℤ

@@ -1,4 +1,4 @@
 pub mod Rounding
 pub mod Bytes
-pub mod Ranks
 pub mod Counting
+pub mod HowRanked

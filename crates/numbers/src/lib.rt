@@ -5,7 +5,7 @@ ghost use mathlib.Core.Path.{_≡_};
 ghost use mathlib.Core.List.{[], _∷_};
 ghost use Prim.Native.Nat.{_+_, _-_, min, max};
 ghost use Rattle.numbers.specs.Bytes.{littleEndian, lowBytes};
-ghost use Rattle.numbers.specs.Ranks.{rank};
+ghost use Rattle.numbers.specs.HowRanked.{rank};
 
 // The number of two bytes, the low byte first.
 pub fn from_two(low: u8, high: u8) -> u16

@@ -28,7 +28,7 @@ pub record Row : Type 0 where
 abbrev pub each : (ℕ → ℕ) → Pixel → Pixel
 each f p = pixel (f (p .first)) (f (p .second)) (f (p .third))
 
--- Rule 4.6: e-sRGB to sRGB counts a pixel if one of its channels is clipped (rule 1.10); the others count none.
+-- Rule 4.6: e-sRGB to sRGB counts a pixel if one of its channels is clipped (rule 1.9); the others count none.
 abbrev pub clipped : ℕ → Pixel → Bool
 clipped n p = toSrgb n (p .first) .clipped || toSrgb n (p .second) .clipped || toSrgb n (p .third) .clipped
 

@@ -9,7 +9,7 @@ use mir.Syntax.{w16, w32}
 use mir.Val.{toZ, ofZ}
 use mir.ValLaws.{toZ-ofZ, toZ-pos}
 use borrow.Author.Tests.{ltb-true, ltb-false}
-use Rattle.numbers.specs.Ranks.{rank}
+use Rattle.numbers.specs.HowRanked.{rank}
 use Rattle.numbers.proofs.Ranks.{ranked, ranked-fits, rank-ranked, in-order}
 use borrow.Author.Needs.{needs}
 use Rattle.numbers.proofs.raised.Statement.{statement}

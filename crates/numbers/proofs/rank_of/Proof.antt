@@ -7,7 +7,7 @@ use lib.IntN.{pos, _+ℤ_}
 use mir.Syntax.{w16, w32}
 use mir.Val.{SFits, toZ, ofZ}
 use mir.ValLaws.{toZ-ofZ}
-use Rattle.numbers.specs.Ranks.{rank}
+use Rattle.numbers.specs.HowRanked.{rank}
 use Rattle.numbers.proofs.Ranks.{rank-sum, rank-fits}
 use Rattle.numbers.proofs.rank_of.Statement.{statement}
 use Rattle.numbers.proofs.rank_of.Tie as tie

@@ -14,7 +14,7 @@ use mir.Syntax.{w16}
 use mir.Val.{toZ, ofZ}
 use mir.ValLaws.{toZ-ofZ}
 use borrow.Author.Tests.{le-ltb}
-use Rattle.numbers.specs.Ranks.{rank}
+use Rattle.numbers.specs.HowRanked.{rank}
 use Rattle.numbers.proofs.Booleans.{or-right}
 use Rattle.numbers.proofs.Writing.{Written, written-all}
 use Rattle.samples.specs.Samples.{place, samplesOf}

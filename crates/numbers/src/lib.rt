@@ -1,6 +1,7 @@
-// Whole numbers: how a quotient is rounded, how a number stands in bytes, and sums and differences that stop
-// at the ends of 16 bits. The definitions of specs/ and the laws of proofs/ are what the crates above use; the functions
-// take and give single numbers, so that they need no bound on an index and ask nothing of a caller.
+// Whole numbers: how a quotient is rounded, how a number stands in bytes, how many elements of a list pass a
+// test, sums and differences that stop at the ends of 16 bits, and the greatest of many. The definitions of
+// specs/ and the laws of proofs/ are what the crates above use; the functions take and give single numbers, so
+// that they need no bound on an index and ask nothing of a caller.
 ghost use mathlib.Core.Path.{_≡_};
 ghost use mathlib.Core.List.{[], _∷_};
 ghost use Prim.Native.Nat.{_+_, _-_, min, max};
@@ -70,9 +71,9 @@ pub fn saturating_add(x: u16, y: u16) -> u16
     if 65535 - y < x { 65535 } else { x + y }
 }
 
-// ---- the greatest of many numbers: of two signed numbers there is one instruction for the greater, of two
-// unsigned ones none. So the greatest so far is kept as a signed number, by its rank.
-
+// The greatest so far, and one number more. Processors have an instruction for the greater of several pairs of
+// signed numbers of 16 bits, and not all have one for unsigned ones: so the greatest is kept as the signed
+// number that has it for its rank. That of 0 is -32,768.
 pub fn raised(top: i16, x: u16) -> i16
     ensures { λ r. ⌜ rank r ≡ max (rank top) x ⌝ }
 {
@@ -80,6 +81,7 @@ pub fn raised(top: i16, x: u16) -> i16
     if top < signed { signed } else { top }
 }
 
+// The greatest itself.
 pub fn rank_of(top: i16) -> u16
     ensures { λ r. ⌜ r ≡ rank top ⌝ }
 {

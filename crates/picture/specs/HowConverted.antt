@@ -47,17 +47,17 @@ sidesOf c = record { reads = codingOf (source c); wide = wideForm (target c) }
 abbrev pub narrowed : ℕ → List ℕ → List ℕ
 narrowed n src = bytesOf false (map (applied (sample.ToEight (cutOf n))) (samplesOf true src))
 
--- How many pixels are brought to sRGB at a time.
-abbrev pub blockSize : ℕ
-blockSize = 16384
-
--- Is one of them outside of what sRGB holds? And is a pixel?
+-- Is one of some codes outside of what sRGB holds? And is a pixel, in one of its channels?
 unfoldable pub someOutside : Gamut → List ℕ → Bool
 someOutside gamut [] = false
 someOutside gamut (x ∷ xs) = outside gamut x || someOutside gamut xs
 
 abbrev pub pixelOutside : Gamut → Pixel → Bool
 pixelOutside gamut p = outside gamut (p .first) || outside gamut (p .second) || outside gamut (p .third)
+
+-- How many pixels are brought to sRGB at a time.
+abbrev pub blockSize : ℕ
+blockSize = 16384
 
 -- Whether a loop reads wide samples, whether it writes them, and what it writes.
 abbrev pub readsWide : Work → Bool

@@ -93,8 +93,8 @@ fn fill_change(change: DepthChange, src: &[u8], dst: &mut [u8])
 
 // ---- to sRGB, and how many pixels it clips
 
-// Writes samples as bytes of sRGB, and tells whether sRGB cannot hold one of them: what is kept is the greatest
-// that one is above the lowest code of sRGB.
+// Writes samples as bytes of sRGB, and tells whether sRGB cannot hold one of them. What is kept for that is the
+// greatest that one is above the lowest code of sRGB, by its rank, from 0 on.
 fn narrow_samples(cut: Cut, gamut: Gamut, src: &[u8], dst: &mut [u8]) -> bool
     requires { ⌜ length (now dst) ≡ length (samplesOf true (now src)) ⌝ }
     ensures bytes { λ _. ⌜ now (dst .exit) ≡ bytesOf false (map (applied (SampleRule.ToEight cut)) (samplesOf true (now (src .entry)))) ⌝ }
@@ -187,6 +187,7 @@ fn block_end(start: usize, pixels: usize) -> usize
     }
 }
 
+// Block after block. A pixel has 6 bytes of codes, and 3 of sRGB.
 fn fill_srgb(depth: Depth, src: &[u8], dst: &mut [u8]) -> usize
     requires { ⌜ Exact true false (length (now src)) (length (now dst)) ⌝ }
     ensures bytes { λ _. ⌜ now (dst .exit) ≡ narrowed (bits depth) (now (src .entry)) ⌝ }

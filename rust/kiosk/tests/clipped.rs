@@ -41,8 +41,16 @@ fn spool(frames: &[(u8, u8, u16, Vec<u8>)]) -> Vec<u8> {
     file
 }
 
-/// Frames of one pixel or more of every kind, and how many of their pixels are clipped.
-fn of_every_kind() -> Vec<(u8, u8, u16, Vec<u8>, usize)> {
+/// A frame, and how many of its pixels are clipped.
+type Clipped = (u8, u8, u16, Vec<u8>, usize);
+
+fn spool_of(frames: &[Clipped]) -> Vec<u8> {
+    let frames = frames.iter().cloned();
+    spool(&frames.map(|f| (f.0, f.1, f.2, f.3)).collect::<Vec<_>>())
+}
+
+/// Frames of one pixel or more of every kind.
+fn of_every_kind() -> Vec<Clipped> {
     vec![
         (1, 8, 2, vec![0, 0, 0, 255, 255, 255], 0),
         (2, 10, 3, wide(&TEN), 2),
@@ -68,12 +76,7 @@ fn of_every_kind() -> Vec<(u8, u8, u16, Vec<u8>, usize)> {
 fn told_on_the_way_to_srgb() {
     let folder = folder("told");
     let frames = of_every_kind();
-    let plain: Vec<_> = frames
-        .iter()
-        .cloned()
-        .map(|f| (f.0, f.1, f.2, f.3))
-        .collect();
-    write(&folder, "in", &spool(&plain));
+    write(&folder, "in", &spool_of(&frames));
     for (number, (kind, _, width, _, clipped)) in frames.into_iter().enumerate() {
         let said = if clipped == 0 {
             String::new()
@@ -187,12 +190,7 @@ fn compared_before_and_after() {
 fn checks_sound_frames() {
     let folder = folder("sound");
     let frames = of_every_kind();
-    let plain: Vec<_> = frames
-        .iter()
-        .cloned()
-        .map(|f| (f.0, f.1, f.2, f.3))
-        .collect();
-    write(&folder, "in", &spool(&plain));
+    write(&folder, "in", &spool_of(&frames));
     let checked = kiosk(&folder, &["check", "in"]);
     let lines: String = frames
         .iter()

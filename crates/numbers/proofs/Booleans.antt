@@ -26,3 +26,7 @@ and-same false = refl
 pub or-right : (a : Bool) → a || false ≡ a
 or-right true = refl
 or-right false = refl
+
+pub or-assoc : (a b c : Bool) → (a || b) || c ≡ a || (b || c)
+or-assoc true b c = refl
+or-assoc false b c = refl

@@ -13,11 +13,11 @@ use lib.Seq.{drop-cons, drop-drop, length-take-le, take-at}
 use borrow.Rule.Slice.PartMut.{postOf, putMid}
 use borrow.Author.Tests.{lt-ltb, le-ltb}
 use Rattle.numbers.specs.Counting.{howMany}
-use Rattle.numbers.proofs.Booleans.{or-false}
+use Rattle.numbers.proofs.Booleans.{or-false, or-assoc}
 use Rattle.numbers.proofs.Counting.{count-append}
 use Rattle.numbers.proofs.Writing.{Written, written-part}
 use Rattle.samples.specs.declared.Pixel.{Pixel}
-use Rattle.samples.specs.Samples.{samplesOf, twoByTwo, bytesOf, pixelsOf, read}
+use Rattle.samples.specs.Samples.{twoByTwo, bytesOf, pixelsOf, read}
 use Rattle.samples.proofs.Reading.{length-two}
 use Rattle.samples.proofs.Buffers.{length-read}
 use Rattle.esrgb.specs.declared.Gamut.{Gamut}
@@ -29,10 +29,6 @@ use Rattle.picture.specs.Convert.{clipped}
 use Rattle.picture.specs.HowConverted.{narrowed, someOutside, pixelOutside}
 
 -- ---- samples
-or-assoc : (a b c : Bool) → (a || b) || c ≡ a || (b || c)
-or-assoc true b c = refl
-or-assoc false b c = refl
-
 ltb-max : (s a b : ℕ) → ltb s (max a b) ≡ ltb s a || ltb s b
 ltb-max s a b = elim (decLt s a) [
   | yes above ↦ rw (lt-ltb s a above) (lt-ltb s (max a b) (omega arith))

@@ -1,17 +1,16 @@
 -- `picture::narrow_samples` meets its contract. The invariant: the samples so far are written, and the greatest of them and the samples left
 -- tell whether one is outside.
 -- Assumes nothing.
-use Prim.Native.Nat.{_+_, _-_, _≤_, _<_}
-use mathlib.Core.Path.{_≡_, refl, sym, ap, _∙_}
+use Prim.Native.Nat.{_-_, _≤_, _<_}
+use mathlib.Core.Path.{_≡_, refl, sym, _∙_}
 use mathlib.Core.Bool.{true, false, _||_}
 use mathlib.Core.List.{[]}
-use native.Mathlib.Nat.{le-refl}
 use native.Mathlib.Omega.{arith}
 use lib.Dec.{ltb}
 use lib.ListN.{length, drop, drop-of-length-le}
 use denote.Ref.{now}
 use mir.Syntax.{w16}
-use mir.Val.{toZ, ofZ}
+use mir.Val.{toZ}
 use mir.ValLaws.{toZ-ofZ}
 use borrow.Author.Tests.{le-ltb}
 use Rattle.numbers.specs.HowRanked.{rank}

@@ -1,6 +1,6 @@
 -- To sRGB, block by block: what one test of the greatest sample tells, which pixels are counted, and that the blocks make the whole.
 -- Assumes nothing.
-use Prim.Native.Nat.{ℕ, zero, suc, _+_, _*_, _-_, _%_, _≤_, _<_, max}
+use Prim.Native.Nat.{ℕ, suc, _+_, _*_, _-_, _%_, _≤_, _<_, max}
 use mathlib.Core.Path.{_≡_, refl, sym, ap, _∙_}
 use mathlib.Core.Bool.{Bool, true, false, _||_}
 use mathlib.Core.List.{List, [], _∷_, _++_, map, append-assoc}
@@ -19,7 +19,7 @@ use Rattle.numbers.proofs.Writing.{Written, written-part}
 use Rattle.samples.specs.declared.Pixel.{Pixel}
 use Rattle.samples.specs.Samples.{twoByTwo, bytesOf, pixelsOf, read}
 use Rattle.samples.proofs.Reading.{length-two}
-use Rattle.samples.proofs.Buffers.{length-read}
+use Rattle.samples.proofs.Buffers.{length-read, two-append, read-append}
 use Rattle.esrgb.specs.declared.Gamut.{Gamut}
 use Rattle.esrgb.specs.declared.SampleRule.the-variants.{ToEight}
 use Rattle.esrgb.specs.HowApplied.{applied, cutOf, gamutOf, aboveLowest, outside}
@@ -62,41 +62,21 @@ none-counted gamut (a ∷ b ∷ c ∷ rest) h =
 
 -- Of samples of 16 bits, the definition says the same of a pixel.
 module _ (n : ℕ) (s : Scale n) where
-  pub same-count : (xs : List ℕ) → ((k : ℕ) → getD xs k 0 < 65536) → howMany (pixelOutside (gamutOf n)) (pixelsOf xs) ≡ howMany (clipped n) (pixelsOf xs)
+  pub same-count : (xs : List ℕ) → ((k : ℕ) → getD xs k 0 ≤ 65535) → howMany (pixelOutside (gamutOf n)) (pixelsOf xs) ≡ howMany (clipped n) (pixelsOf xs)
   unfolding howMany
   same-count [] h = refl
   same-count (a ∷ []) h = refl
   same-count (a ∷ b ∷ []) h = refl
   same-count (a ∷ b ∷ c ∷ rest) h =
-      rw (outside-clipped n a s (h 0), outside-clipped n b s (h 1), outside-clipped n c s (h 2), same-count rest (λ k. h (suc (suc (suc k)))))
-
-pub sample-fits : (bytes : List ℕ) → ((i : ℕ) → getD bytes i 0 < 256) → (k : ℕ) → getD (twoByTwo bytes) k 0 < 65536
-sample-fits [] h k = omega arith
-sample-fits (low ∷ []) h k = omega arith
-sample-fits (low ∷ high ∷ rest) h zero = omega (arith, h 0, h 1)
-sample-fits (low ∷ high ∷ rest) h (suc k) = sample-fits rest (λ i. h (suc (suc i))) k
+      rw (outside-clipped n a s (omega (arith, h 0)), outside-clipped n b s (omega (arith, h 1)), outside-clipped n c s (omega (arith, h 2)), same-count rest (λ k. h (suc (suc (suc k)))))
 
 -- ---- blocks behind one another
-two-append : (xs ys : List ℕ) → length xs % 2 ≡ 0 → twoByTwo (xs ++ ys) ≡ twoByTwo xs ++ twoByTwo ys
-two-append [] ys h = refl
-two-append (low ∷ []) ys h = absurd (omega arith)
-two-append (low ∷ high ∷ rest) ys h = rw (two-append rest ys (omega arith))
-
-pixels-append : (xs ys : List ℕ) → length xs % 3 ≡ 0 → pixelsOf (xs ++ ys) ≡ pixelsOf xs ++ pixelsOf ys
-pixels-append [] ys h = refl
-pixels-append (a ∷ []) ys h = absurd (omega arith)
-pixels-append (a ∷ b ∷ []) ys h = absurd (omega arith)
-pixels-append (a ∷ b ∷ c ∷ rest) ys h = rw (pixels-append rest ys (omega arith))
-
 bytes-append : (f : ℕ → ℕ) (xs ys : List ℕ) → bytesOf false (map f (xs ++ ys)) ≡ bytesOf false (map f xs) ++ bytesOf false (map f ys)
 bytes-append f [] ys = refl
 bytes-append f (x ∷ xs) ys = rw (bytes-append f xs ys)
 
-pub narrowed-append : (n : ℕ) (xs ys : List ℕ) → length xs % 6 ≡ 0 → narrowed n (xs ++ ys) ≡ narrowed n xs ++ narrowed n ys
+narrowed-append : (n : ℕ) (xs ys : List ℕ) → length xs % 6 ≡ 0 → narrowed n (xs ++ ys) ≡ narrowed n xs ++ narrowed n ys
 narrowed-append n xs ys h = rw (two-append xs ys (omega arith)) (bytes-append (applied (ToEight (cutOf n))) (twoByTwo xs) (twoByTwo ys))
-
-pub read-append : (xs ys : List ℕ) → length xs % 6 ≡ 0 → read true (xs ++ ys) ≡ read true xs ++ read true ys
-read-append xs ys h = rw (two-append xs ys (omega arith)) (pixels-append (twoByTwo xs) (twoByTwo ys) (omega (arith, length-two xs)))
 
 -- The pixels from i to j of a source that holds them.
 abbrev pub block : List ℕ → ℕ → ℕ → List ℕ

@@ -112,6 +112,7 @@ fn narrow_samples(cut: Cut, gamut: Gamut, src: &[u8], dst: &mut [u8]) -> bool
     gamut.span < rank_of(top)
 }
 
+// The numbers of a depth, which are constants where the caller names the depth.
 fn narrow_at(depth: Depth, src: &[u8], dst: &mut [u8]) -> bool
     requires { ⌜ length (now dst) ≡ length (samplesOf true (now src)) ⌝ }
     ensures bytes { λ _. ⌜ now (dst .exit) ≡ narrowed (bits depth) (now (src .entry)) ⌝ }

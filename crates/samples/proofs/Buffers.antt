@@ -1,17 +1,17 @@
--- Pixels in a buffer: how many there are, and that those written are read back.
+-- Pixels in a buffer: how many there are, that those written are read back, and that a buffer in two parts of whole pixels is read in two.
 -- Assumes nothing.
 use Prim.Native.Nat.{ℕ, zero, suc, _*_, _/_, _%_, _<_}
 use mathlib.Core.Path.{_≡_, refl, sym, ap, _∙_}
 use mathlib.Core.Bool.{Bool, true, false}
-use mathlib.Core.List.{List, [], _∷_}
+use mathlib.Core.List.{List, [], _∷_, _++_}
 use native.Mathlib.Omega.{arith}
 use native.Mathlib.Nat.{mod-eq-of-lt}
 use lib.ListN.{length, getD}
 use lib.Seq.{ext-getD}
 use Rattle.numbers.proofs.Bytes.{held}
 use Rattle.samples.specs.declared.Pixel.{Pixel}
-use Rattle.samples.specs.Samples.{place, pixelSize, samplesOf, bytesOf, pixel, pixelsOf, samplesIn, read, write}
-use Rattle.samples.proofs.Reading.{length-samples, length-pixels}
+use Rattle.samples.specs.Samples.{place, pixelSize, twoByTwo, samplesOf, bytesOf, pixel, pixelsOf, samplesIn, read, write}
+use Rattle.samples.proofs.Reading.{length-two, length-samples, length-pixels}
 
 -- ---- lengths
 pub length-read : (wide : Bool) (bytes : List ℕ) → length (read wide bytes) ≡ length bytes / pixelSize wide
@@ -68,3 +68,18 @@ same-pixels d xs ys whole size h =
     sym (samples-of-pixels xs whole)
     ∙ ap samplesIn (ext-getD d (pixelsOf xs) (pixelsOf ys) (simp (length-pixels, size)) (λ j i. h j (rw length-pixels at i)))
     ∙ samples-of-pixels ys (omega arith)
+
+-- ---- buffers behind one another, of wide samples
+pub two-append : (xs ys : List ℕ) → length xs % 2 ≡ 0 → twoByTwo (xs ++ ys) ≡ twoByTwo xs ++ twoByTwo ys
+two-append [] ys h = refl
+two-append (low ∷ []) ys h = absurd (omega arith)
+two-append (low ∷ high ∷ rest) ys h = rw (two-append rest ys (omega arith))
+
+pixels-append : (xs ys : List ℕ) → length xs % 3 ≡ 0 → pixelsOf (xs ++ ys) ≡ pixelsOf xs ++ pixelsOf ys
+pixels-append [] ys h = refl
+pixels-append (a ∷ []) ys h = absurd (omega arith)
+pixels-append (a ∷ b ∷ []) ys h = absurd (omega arith)
+pixels-append (a ∷ b ∷ c ∷ rest) ys h = rw (pixels-append rest ys (omega arith))
+
+pub read-append : (xs ys : List ℕ) → length xs % 6 ≡ 0 → read true (xs ++ ys) ≡ read true xs ++ read true ys
+read-append xs ys h = rw (two-append xs ys (omega arith)) (pixels-append (twoByTwo xs) (twoByTwo ys) (omega (arith, length-two xs)))

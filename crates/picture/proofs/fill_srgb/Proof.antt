@@ -15,11 +15,12 @@ use Rattle.numbers.proofs.Writing.{Written, written-all}
 use Rattle.samples.specs.declared.Pixel.{Pixel}
 use Rattle.samples.specs.Samples.{twoByTwo, read}
 use Rattle.samples.proofs.Buffers.{length-read}
+use Rattle.samples.proofs.Judging.{two-below}
 use Rattle.esrgb.specs.Depths.{bits}
 use Rattle.esrgb.specs.HowApplied.{gamutOf}
 use Rattle.esrgb.proofs.Scale.{scale}
 use Rattle.picture.specs.HowConverted.{narrowed, blockSize, pixelOutside}
-use Rattle.picture.proofs.Narrowing.{same-count, sample-fits, block-samples, block-pixels, count-block, block-written}
+use Rattle.picture.proofs.Narrowing.{same-count, block-samples, block-pixels, count-block, block-written}
 use borrow.Author.Needs.{needs}
 use Rattle.picture.proofs.fill_srgb.Statement.{statement}
 use Rattle.picture.proofs.fill_srgb.Tie as tie
@@ -170,7 +171,7 @@ returns c =
       written-all (narrowed (bits (a .depth))) (now (a .src)) (at .loop .dst) (3 * at .loop .start) (6 * at .loop .start) refl (omega arith)
           (omega (arith, at .loop .inv .1, begin .before .pre)) (at .loop .inv .2),
       sym (at .loop .inv .3 ∙ rw rest (omega arith))
-          ∙ same-count (bits (a .depth)) (scale (a .depth)) (twoByTwo (now (a .src))) (sample-fits (now (a .src)) (λ k. begin .shared-slice-known .given k .fits)),
+          ∙ same-count (bits (a .depth)) (scale (a .depth)) (twoByTwo (now (a .src))) (two-below (now (a .src)) (λ k. begin .shared-slice-known .given k .fits)),
     )
 
 pub fill-srgb-spec : {M : Type 1} → statement M

@@ -23,11 +23,11 @@ ghost use mathlib.Core.List.{map};
 ghost use Prim.Native.Nat.{ℕ, _+_, _-_, _*_, _/_, _^_, _≤_, _<_, min};
 ghost use lib.ListN.{length, getD};
 ghost use lib.Dec.{leb};
-ghost use lib.IntN.{pos, negℤ, natAbs};
+ghost use lib.IntN.{natAbs};
 ghost use Rattle.refusal.specs.Answers.{said, leaves};
 ghost use Rattle.samples.specs.Samples.{twoByTwo};
 ghost use Rattle.esrgb.specs.Depths.{bits, scale};
-ghost use Rattle.transfer.specs.Light.{offersLight, lightOfCode};
+ghost use Rattle.transfer.specs.Light.{offersLight, levelSize, signed, lightOfCode};
 ghost use Rattle.transfer.specs.Level.{levelOfLight, codeOfLight};
 ghost use Rattle.transfer.specs.HowTabled.{levels, startOf, LightTable, ThresholdTable, StartTable};
 ghost use Rattle.linear.specs.Operations.{codesToLightSays, codesToLight, lightToCodesSays, lightToCodes, lightSays, lightSaid, codeSays, codeSaid, pixelOfLight};
@@ -92,7 +92,7 @@ fn light_of(lights: &[u32; 2560], code: u16) -> i32
 
 // How far a 12-bit code is from that of level 0.
 fn distance(code: u16) -> u16
-    ensures { λ r. ⌜ r ≡ (code - 1536) + (1536 - code) ⌝ }
+    ensures { λ r. ⌜ r ≡ levelSize 12 code ⌝ }
 {
     if code < 1536 {
         1536 - code
@@ -103,7 +103,7 @@ fn distance(code: u16) -> u16
 
 fn with_sign(negative: bool, magnitude: u32) -> i32
     requires { ⌜ magnitude < 2 ^ 31 ⌝ }
-    ensures { λ r. ⌜ r ≡ cond negative (negℤ (pos magnitude)) (pos magnitude) ⌝ }
+    ensures { λ r. ⌜ r ≡ signed negative magnitude ⌝ }
 {
     let value = magnitude as i32;
     if negative { -value } else { value }

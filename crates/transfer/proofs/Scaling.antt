@@ -2,20 +2,20 @@
 -- Assumes nothing.
 use Prim.Native.Nat.{ℕ, zero, suc, _+_, _-_, _*_, _^_, _/_, _≤_, _<_}
 use mathlib.Core.Path.{_≡_, refl, sym, ap, _∙_}
-use mathlib.Core.Bool.{true, false≢true, cond}
+use mathlib.Core.Bool.{true, false≢true}
 use native.Mathlib.Omega.{arith}
 use native.Mathlib.Nat.{pow-zero, pow-suc, mul-add, mul-sub, mul-left-comm, mul-mul-mul-comm, mul-div-mul-left, mul-le-mul-left, le-of-mul-le-mul-left, lt-of-mul-lt-mul-left, mul-lt-mul-of-pos-left, mul-pos, lt-of-not-le}
 use native.Mathlib.Decide.{decLe}
 use borrow.Author.Tests.{le-leb, lt-leb}
 use lib.Dec.{leb, ltb}
 use mathlib.Core.List.{List, map}
-use lib.IntN.{ℤ, pos, negℤ}
+use lib.IntN.{ℤ}
 use Rattle.numbers.specs.Rounding.{nearest}
 use Rattle.esrgb.specs.declared.Depth.{Depth}
 use Rattle.esrgb.specs.declared.Depth.the-variants.{Ten, Twelve, Sixteen}
 use Rattle.esrgb.specs.Depths.{bits, greatest, offset, step, scale}
 use Rattle.esrgb.proofs.Scale.{Scale}
-use Rattle.transfer.specs.Light.{offersLight, lowLevel, reachesLight, lightOfLevel, lightOfCode}
+use Rattle.transfer.specs.Light.{offersLight, lowLevel, reachesLight, lightOfLevel, signed, lightOfCode}
 
 pub pow-mul : (x y n : ℕ) → (x * y) ^ n ≡ x ^ n * y ^ n
 pow-mul x y zero = rw (pow-zero (x * y), pow-zero x, pow-zero y)
@@ -72,11 +72,11 @@ module _ (m : ℕ) (some : zero < m) where
 
 -- The light of a code, at any scale and offset.
 abbrev lightFrom : ℕ → ℕ → ℕ → ℤ
-lightFrom S o code = cond (ltb code o) (negℤ (pos (lightOfLevel S (o - code)))) (pos (lightOfLevel S (code - o)))
+lightFrom S o code = signed (ltb code o) (lightOfLevel S ((code - o) + (o - code)))
 
 from-scaled : (m : ℕ) → zero < m → (S o code : ℕ) → lightFrom (m * S) (m * o) (m * code) ≡ lightFrom S o code
 from-scaled m some S o code =
-    rw (ltb-times m some code o, ← mul-sub m o code, ← mul-sub m code o, light-scaled m some S (o - code), light-scaled m some S (code - o))
+    rw (ltb-times m some code o, ← mul-sub m o code, ← mul-sub m code o, ← mul-add m (code - o) (o - code), light-scaled m some S ((code - o) + (o - code)))
 
 -- ---- from a depth of light to 12 bits: m steps of depth n make one of 12 bits
 pub record Up (n m : ℕ) : Type 0 where

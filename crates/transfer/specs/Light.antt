@@ -32,9 +32,14 @@ greatestLight = 2 ^ 31 - 1
 unfoldable pub lightOfLevel : ℕ → ℕ → ℕ
 lightOfLevel S v = cond (lowLevel S v) (nearest (10 ^ 8 * v) (1292 * S)) (lastPassing (reachesLight S v) greatestLight)
 
--- Rules 1.5 and 6.2, with the sign: the light of a code.
+-- Rule 1.5: the size of a code's level. One of the two differences is 0.
+abbrev pub levelSize : ℕ → ℕ → ℕ
+levelSize n code = (code - offset n) + (offset n - code)
+
+-- A size with a sign.
+abbrev pub signed : Bool → ℕ → ℤ
+signed negative size = cond negative (negℤ (pos size)) (pos size)
+
+-- Rule 6.2, with the sign of the level: the light of a code.
 unfoldable pub lightOfCode : ℕ → ℕ → ℤ
-lightOfCode n code =
-    cond (ltb code (offset n))
-    (negℤ (pos (lightOfLevel (scale n) (offset n - code))))
-    (pos (lightOfLevel (scale n) (code - offset n)))
+lightOfCode n code = signed (ltb code (offset n)) (lightOfLevel (scale n) (levelSize n code))

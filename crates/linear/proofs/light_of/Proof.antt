@@ -3,10 +3,10 @@
 use mathlib.Core.Path.{_∙_, ap}
 use native.Mathlib.Omega.{arith}
 use mir.ValLaws.{toZ-ofZ}
-use Rattle.esrgb.specs.Depths.{scale}
-use Rattle.transfer.specs.Light.{lightOfLevel}
+use lib.Dec.{ltb}
+use Rattle.esrgb.specs.Depths.{offset, scale}
+use Rattle.transfer.specs.Light.{lightOfLevel, signed, lightOfCode}
 use Rattle.transfer.proofs.Light.{light-small}
-use Rattle.linear.proofs.Codes.{light-at-distance}
 use borrow.Author.Needs.{needs}
 use Rattle.linear.proofs.light_of.Statement.{statement}
 use Rattle.linear.proofs.light_of.Tie as tie
@@ -29,12 +29,13 @@ with-sign-requires c κs =
     rw (s .pre .0 .at (c .before .distance .result) (omega arith)) (light-small _ _ (omega arith))
 
 returns : tie.Need-returns
+unfolding lightOfCode
 returns c =
     let s = c .before .before .before in
     let d = c .before .before .distance in
     toZ-ofZ _ _ (record { sfits = c .with-sign .ok })
     ∙ c .with-sign .ensures
-    ∙ light-at-distance (s .args .code) _ (s .pre .0 .at (d .result) (omega arith) ∙ ap (lightOfLevel (scale 12)) (d .ensures))
+    ∙ ap (signed (ltb (s .args .code) (offset 12))) (s .pre .0 .at (d .result) (omega arith) ∙ ap (lightOfLevel (scale 12)) (d .ensures))
 
 pub light-of-spec : {M : Type 1} → statement M
 light-of-spec =

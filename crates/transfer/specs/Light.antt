@@ -18,10 +18,17 @@ offersLight n = eqb n 10 || eqb n 12
 abbrev pub lowLevel : ℕ → ℕ → Bool
 lowLevel S v = leb (100000 * v) (4045 * S)
 
--- Beyond it (6a, 6c): is 1,000,000 × ((u + 0.055) / 1.055)^(12/5) at least q − 1/2? Rule 6.5: both sides are doubled and taken to the
--- fifth power, and the fraction is written (200 v + 11 S) / (211 S). A search ends at q = 1, so that 2 q − 1 is never cut off at 0.
+-- Beyond it (6a, 6c) the light is x = 1,000,000 × ((u + 0.055) / 1.055)^(12/5). Rule 6.5: x is compared with p / d by the fifth powers of
+-- d × x and p, and the fraction is written (200 v + 11 S) / (211 S). These are the two sides, both times (211 S)^12.
+abbrev pub powerSide : ℕ → ℕ → ℕ → ℕ
+powerSide S v d = (d * 10 ^ 6) ^ 5 * (200 * v + 11 * S) ^ 12
+
+abbrev pub numberSide : ℕ → ℕ → ℕ
+numberSide S p = p ^ 5 * (211 * S) ^ 12
+
+-- Is x at least q − 1/2? A search ends at q = 1, so that 2 q − 1 is never cut off at 0.
 unfoldable pub reachesLight : ℕ → ℕ → ℕ → Bool
-reachesLight S v q = leb ((2 * q - 1) ^ 5 * (211 * S) ^ 12) ((2 * 10 ^ 6) ^ 5 * (200 * v + 11 * S) ^ 12)
+reachesLight S v q = leb (numberSide S (2 * q - 1)) (powerSide S v 2)
 
 -- Rule 6.1: the greatest number of 32 bits with a sign.
 abbrev pub greatestLight : ℕ

@@ -12,10 +12,8 @@ use lib.ListN.{length}
 use Rattle.refusal.specs.Answers.{Verdict, sound, faulty, Said, accepted, refused, decides}
 use Rattle.refusal.proofs.Verdicts.{or-holds}
 use Rattle.samples.specs.declared.Coding.{Coding}
-use Rattle.samples.specs.declared.Coding.the-variants.{Codes}
 use Rattle.samples.specs.Samples.{place, pixelSize, samplesOf}
 use Rattle.samples.specs.Faults.{wideCoding, fault, samplesSay, callFault, sourceSays}
-use Rattle.esrgb.specs.Depths.{greatest}
 use Rattle.picture.specs.declared.Conversion.{Conversion}
 use Rattle.picture.specs.Forms.{codingOf, wideForm}
 use Rattle.picture.specs.Convert.{source, target, offers, convertSays}
@@ -58,7 +56,7 @@ pub convert-counts : (c : Conversion) (src : List ℕ) (room : ℕ) → length s
 convert-counts c src room h = source-counts (offers c) (codingOf (source c)) (wideForm (target c)) src room h
 
 pub light-counts : (n : ℕ) (src : List ℕ) (room : ℕ) → length src < 2 ^ 63 → Countable (codesToLightSays n src room)
-light-counts n src room h = source-counts (offersLight n) (Codes (greatest n) false) false src room h
+light-counts n src room h = source-counts _ _ false src room h
 
 pub code-counts : (n numbers room : ℕ) → numbers < 2 ^ 63 → Countable (lightToCodesSays n numbers room)
 code-counts n numbers room h =

@@ -7,7 +7,7 @@ use Rattle.esrgb.specs.Codes.{fromSrgb, toSrgb, changeDepth}
 use Rattle.lumachroma.specs.LumaChroma.{luma, chroma, blueChroma, redChroma, redBack, greenBack, blueBack}
 use Rattle.esycc.specs.Esycc as esycc
 use Rattle.esycc.specs.Sycc.{halfMore, chromaByte}
-use Rattle.transfer.proofs.Examples.{light-examples, code-examples}
+use Rattle.transfer.proofs.Examples.{light-examples, sixteen-examples, code-examples}
 use Rattle.tint.proofs.Examples as tints
 use Rattle.examples.specs.Examples.{AllHold, done, _&_, examples}
 
@@ -16,6 +16,7 @@ unfolding nearest nearestDown fromSrgb toSrgb changeDepth luma chroma blueChroma
 all-hold =
     refl & refl & refl & refl & refl & refl & refl & refl & refl & refl & refl
     & light-examples .0 & light-examples .1 & light-examples .2 & light-examples .3 & light-examples .4
+    & sixteen-examples .0 & sixteen-examples .1 & sixteen-examples .2 & sixteen-examples .3 & sixteen-examples .4 & sixteen-examples .5
     & code-examples .0 & code-examples .1
     & refl & refl & refl & refl & refl & refl & refl & refl & refl
     & refl & refl & refl & refl

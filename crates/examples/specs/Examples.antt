@@ -1,5 +1,5 @@
--- The examples that are proved (rules 10.1 to 10.5, the depths of 10.6, 10.8 and 10.9), one after another: those to 10.5 are document
--- 01's starred swatches.
+-- The examples that are proved (rules 10.1 to 10.5, the depths of 10.6, 10.8 and 10.9), one after another. Those to 10.5, but for clipped
+-- codes and light at 16 bits, are document 01's starred swatches.
 -- Assumes nothing.
 use Prim.Native.Nat.{ℕ, suc, _+_, _-_}
 use mathlib.Core.Path.{_≡_}
@@ -73,6 +73,12 @@ examples =
     ∷ lightOf 12 (pos 82) (pos 3111)
     ∷ lightOf 12 (pos 2040) (pos 1000000)
     ∷ lightOf 10 (pos 20) (pos 3035)
+    ∷ lightOf 16 (pos 16) (pos 38)
+    ∷ lightOf 16 (pos 8) (pos 19)
+    ∷ lightOf 16 (pos 4) (pos 10)
+    ∷ lightOf 16 (negsuc 3) (negsuc 9)
+    ∷ lightOf 16 (pos 40959) (pos 1680904)
+    ∷ lightOf 16 (negsuc 24575) (negsuc 527114)
     ∷ codeOf 12 (pos 3130) 1618
     ∷ codeOf 12 (pos 3131) 1619
     -- Rule 10.3.

@@ -17,7 +17,7 @@ use Rattle.samples.specs.Faults.{wideCoding, fault, samplesSay, callFault, sour
 use Rattle.picture.specs.declared.Conversion.{Conversion}
 use Rattle.picture.specs.Forms.{codingOf, wideForm}
 use Rattle.picture.specs.Convert.{source, target, offers, convertSays}
-use Rattle.transfer.specs.Light.{offersLight}
+use Rattle.transfer.specs.Level.{offersCodes}
 use Rattle.linear.specs.Operations.{codesToLightSays, lightToCodesSays}
 use Rattle.records.specs.declared.FrameRecord.{FrameRecord}
 use Rattle.records.specs.Faults.{frameLimit, pixelBytes, recordFault}
@@ -60,7 +60,7 @@ light-counts n src room h = source-counts _ _ false src room h
 
 pub code-counts : (n numbers room : ℕ) → numbers < 2 ^ 63 → Countable (lightToCodesSays n numbers room)
 code-counts n numbers room h =
-    or-holds Countable (callFault (offersLight n) false true numbers room) (accepted (numbers / 3)) (λ number. tt) (pixels false numbers h)
+    or-holds Countable (callFault (offersCodes n) false true numbers room) (accepted (numbers / 3)) (λ number. tt) (pixels false numbers h)
 
 pub frame-counts : (r : FrameRecord) → r .width < 2 ^ 16 → r .height < 2 ^ 16 → pixelBytes r < 2 ^ 63
 frame-counts r w h = lt-of-le-of-lt (pixels-small r w h) (lit< tt)

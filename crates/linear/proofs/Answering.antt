@@ -1,4 +1,4 @@
--- The depths that have light, and what an accepted answer tells of the samples.
+-- The depths that light has codes at, and what an accepted answer tells of the samples.
 -- Assumes nothing.
 use Prim.Native.Nat.{ℕ, zero, suc, _+_, _*_, _≤_}
 use mathlib.Core.Path.{_≡_, refl}
@@ -11,9 +11,9 @@ use lib.ListN.{getD}
 use Rattle.refusal.specs.Answers.{faulty, sound, Said, accepted, refusedAt, decides}
 use Rattle.samples.specs.declared.Coding.the-variants.{Codes}
 use Rattle.samples.specs.Faults.{fault, samplesSay}
-use Rattle.transfer.specs.Light.{offersLight}
+use Rattle.transfer.specs.Level.{offersCodes}
 
-pub not-offered : (n : ℕ) → (n ≡ 10 → ⊥) → (n ≡ 12 → ⊥) → offersLight n ≡ false
+pub not-offered : (n : ℕ) → (n ≡ 10 → ⊥) → (n ≡ 12 → ⊥) → offersCodes n ≡ false
 not-offered n ten twelve = rw (ne-eqb n 10 ten, ne-eqb n 12 twelve)
 
 -- ---- accepted: no sample is above the greatest

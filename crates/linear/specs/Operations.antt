@@ -11,9 +11,9 @@ use Rattle.samples.specs.declared.Coding.the-variants.{Codes}
 use Rattle.samples.specs.declared.Pixel.{Pixel}
 use Rattle.samples.specs.Samples.{pixel, twoByTwo, bytesOf}
 use Rattle.samples.specs.Faults.{inOrder, sourceSays}
-use Rattle.esrgb.specs.Depths.{greatest}
-use Rattle.transfer.specs.Light.{offersLight, lightOfCode}
-use Rattle.transfer.specs.Level.{codeOfLight}
+use Rattle.esrgb.specs.Depths.{offered, greatest}
+use Rattle.transfer.specs.Light.{lightOfCode}
+use Rattle.transfer.specs.Level.{offersCodes, codeOfLight}
 use Rattle.linear.specs.declared.LightFound.{LightFound}
 use Rattle.linear.specs.declared.LightFound.the-variants as light-found
 use Rattle.linear.specs.declared.LightFound.the-variants.{Light}
@@ -24,7 +24,7 @@ use Rattle.linear.specs.declared.CodeFound.the-variants.{Code}
 -- Codes to light refuses as Convert does, in its order. The source is bytes, two to a sample, and the destination has `room`
 -- numbers, one to a sample.
 abbrev pub codesToLightSays : ℕ → List ℕ → ℕ → Said
-codesToLightSays n src room = sourceSays (offersLight n) (Codes (greatest n) false) false src room
+codesToLightSays n src room = sourceSays (offered n) (Codes (greatest n) false) false src room
 
 -- What it writes if it accepts: the light of each sample.
 abbrev pub codesToLight : ℕ → List ℕ → List ℤ
@@ -33,7 +33,7 @@ codesToLight n src = map (lightOfCode n) (twoByTwo src)
 -- Light to codes does too, and no number is at fault. The source is so many numbers, one to a sample, and the destination has `room`
 -- bytes, two to a sample.
 abbrev pub lightToCodesSays : ℕ → ℕ → ℕ → Said
-lightToCodesSays n numbers room = inOrder (offersLight n) false true numbers room (accepted (numbers / 3))
+lightToCodesSays n numbers room = inOrder (offersCodes n) false true numbers room (accepted (numbers / 3))
 
 -- What it writes if it accepts: the code of each light, two bytes each.
 abbrev pub lightToCodes : ℕ → List ℤ → List ℕ
@@ -45,14 +45,14 @@ pub data Single (A : Type 0) : Type 0 where
   refuses : ℕ → Single A
 
 abbrev pub lightSays : ℕ → ℕ → Single ℤ
-lightSays n code = cond (not (offersLight n)) (refuses 9) (cond (ltb (greatest n) code) (refuses 12) (gives (lightOfCode n code)))
+lightSays n code = cond (not (offered n)) (refuses 9) (cond (ltb (greatest n) code) (refuses 12) (gives (lightOfCode n code)))
 
 abbrev pub lightSaid : LightFound → Single ℤ
 lightSaid (Light light) = gives light
 lightSaid (light-found.Refused r) = refuses (numberOf r)
 
 abbrev pub codeSays : ℕ → ℤ → Single ℕ
-codeSays n light = cond (not (offersLight n)) (refuses 9) (gives (codeOfLight n light))
+codeSays n light = cond (not (offersCodes n)) (refuses 9) (gives (codeOfLight n light))
 
 abbrev pub codeSaid : CodeFound → Single ℕ
 codeSaid (Code code) = gives code

@@ -1,7 +1,9 @@
-// Linear light in buffers, both ways, at 10 and 12 bits (rule 6.7): e-sRGB codes to signed millionths of
-// reference white, and such numbers to codes. For every input it promises the answer and every number or
+// Linear light in buffers (rule 6.7): e-sRGB codes of every depth to signed millionths of reference white,
+// and such numbers to codes of 10 and 12 bits. For every input it promises the answer and every number or
 // byte of the destination, by what `transfer` defines for one sample, and asks nothing of a caller.
 use esrgb::Depth;
+use esrgb::Offer;
+use esrgb::depth_of;
 use esrgb::greatest_of;
 use esrgb::step_of;
 use numbers::two_bytes;
@@ -26,29 +28,25 @@ ghost use lib.Dec.{leb};
 ghost use lib.IntN.{natAbs};
 ghost use Rattle.refusal.specs.Answers.{said, leaves};
 ghost use Rattle.samples.specs.Samples.{twoByTwo};
-ghost use Rattle.esrgb.specs.Depths.{bits, scale};
-ghost use Rattle.transfer.specs.Light.{offersLight, levelSize, signed, lightOfCode};
-ghost use Rattle.transfer.specs.Level.{levelOfLight, codeOfLight};
+ghost use Rattle.esrgb.specs.Depths.{bits, greatest, scale};
+ghost use Rattle.transfer.specs.Light.{lightBetween, levelSize, signed, lightOfCode};
+ghost use Rattle.transfer.specs.Level.{offersCodes, levelOfLight, codeOfLight};
 ghost use Rattle.transfer.specs.HowTabled.{levels, startOf, LightTable, ThresholdTable, StartTable};
 ghost use Rattle.linear.specs.Operations.{codesToLightSays, codesToLight, lightToCodesSays, lightToCodes, lightSays, lightSaid, codeSays, codeSaid, pixelOfLight};
 
-// Codes to light: each two-byte sample becomes a number. It refuses as Convert does, and a depth other
-// than 10 and 12 is not offered.
+// Codes to light: each two-byte sample becomes a number. It refuses as Convert does.
 pub fn code_to_light(depth: u32, src: &[u8], dst: &mut [i32]) -> Answer
     ensures answer { λ r. ⌜ said r ≡ codesToLightSays depth (now (src .entry)) (length (now (dst .entry))) ⌝ }
     ensures numbers { λ r. ⌜ now (dst .exit) ≡ leaves (codesToLightSays depth (now (src .entry)) (length (now (dst .entry)))) (codesToLight depth (now (src .entry))) (now (dst .entry)) ⌝ }
 {
-    match depth {
-        10 => codes_to_light(Depth::Ten, src, dst),
-        12 => codes_to_light(Depth::Twelve, src, dst),
-        _ => Answer::Refused(Refusal::DepthNotOffered),
+    match depth_of(depth) {
+        Offer::Offered(n) => codes_to_light(n, src, dst),
+        Offer::NotOffered => Answer::Refused(Refusal::DepthNotOffered),
     }
 }
 
-// The same at a depth that is offered. A 10-bit code times 4 is a 12-bit code of the same light: the
-// factor is the step of 12 bits, which is 8, over that of the depth.
+// The same at a depth that is offered.
 fn codes_to_light(depth: Depth, src: &[u8], dst: &mut [i32]) -> Answer
-    requires { ⌜ offersLight (bits depth) ≡ true ⌝ }
     ensures answer { λ r. ⌜ said r ≡ codesToLightSays (bits depth) (now (src .entry)) (length (now (dst .entry))) ⌝ }
     ensures numbers { λ r. ⌜ now (dst .exit) ≡ leaves (codesToLightSays (bits depth) (now (src .entry)) (length (now (dst .entry)))) (codesToLight (bits depth) (now (src .entry))) (now (dst .entry)) ⌝ }
 {
@@ -60,7 +58,7 @@ fn codes_to_light(depth: Depth, src: &[u8], dst: &mut [i32]) -> Answer
     match answer {
         Answer::Done(_) => {
             let lights = light_table();
-            write_lights(&lights, 8 / step_of(depth), src, dst);
+            write_lights(&lights, depth, src, dst);
         }
         Answer::Refused(_) => {}
         Answer::RefusedAt(_, _) => {}
@@ -68,10 +66,24 @@ fn codes_to_light(depth: Depth, src: &[u8], dst: &mut [i32]) -> Answer
     answer
 }
 
-// The light of each sample times factor.
-fn write_lights(lights: &[u32; 2560], factor: u16, src: &[u8], dst: &mut [i32])
-    requires { ⌜ LightTable (now lights) × (length (now dst) ≡ length (now src) / 2) × ((k : ℕ) → factor * getD (twoByTwo (now src)) k 0 < 4096) ⌝ }
-    ensures { λ r. ⌜ now (dst .exit) ≡ map (λ x. lightOfCode 12 (factor * x)) (twoByTwo (now (src .entry))) ⌝ }
+// The light of each sample. A code of any depth, times a power of two, is a 16-bit code of the same light.
+// The factors are literals so that the compiler makes a loop for each: at 10 and 12 bits it sees that
+// every level has an entry of its own, and drops the straight line.
+fn write_lights(lights: &[u32; 2561], depth: Depth, src: &[u8], dst: &mut [i32])
+    requires { ⌜ LightTable (now lights) × (length (now dst) ≡ length (now src) / 2) × ((k : ℕ) → getD (twoByTwo (now src)) k 0 ≤ greatest (bits depth)) ⌝ }
+    ensures { λ r. ⌜ now (dst .exit) ≡ codesToLight (bits depth) (now (src .entry)) ⌝ }
+{
+    match depth {
+        Depth::Ten => write_multiples(lights, 64, src, dst),
+        Depth::Twelve => write_multiples(lights, 16, src, dst),
+        Depth::Sixteen => write_multiples(lights, 1, src, dst),
+    }
+}
+
+// The light of each sample times factor, as a 16-bit code.
+fn write_multiples(lights: &[u32; 2561], factor: u16, src: &[u8], dst: &mut [i32])
+    requires { ⌜ LightTable (now lights) × (length (now dst) ≡ length (now src) / 2) × ((k : ℕ) → factor * getD (twoByTwo (now src)) k 0 < 2 ^ 16) ⌝ }
+    ensures { λ r. ⌜ now (dst .exit) ≡ map (λ x. lightOfCode 16 (factor * x)) (twoByTwo (now (src .entry))) ⌝ }
 {
     let end = src.len() / 2;
     let mut k = 0;
@@ -82,23 +94,44 @@ fn write_lights(lights: &[u32; 2560], factor: u16, src: &[u8], dst: &mut [i32])
     }
 }
 
-// The light of a 12-bit code.
-fn light_of(lights: &[u32; 2560], code: u16) -> i32
-    requires { ⌜ LightTable (now lights) × (code < 4096) ⌝ }
-    ensures { λ r. ⌜ r ≡ lightOfCode 12 code ⌝ }
+// The 16-bit code of level 0.
+const OFFSET: u16 = 24576;
+
+// The light of a 16-bit code.
+fn light_of(lights: &[u32; 2561], code: u16) -> i32
+    requires { ⌜ LightTable (now lights) ⌝ }
+    ensures { λ r. ⌜ r ≡ lightOfCode 16 code ⌝ }
 {
-    with_sign(code < 1536, lights[distance(code) as usize])
+    with_sign(
+        code < OFFSET,
+        light_between(lights, level_size(code) as u32),
+    )
 }
 
-// How far a 12-bit code is from that of level 0.
-fn distance(code: u16) -> u16
-    ensures { λ r. ⌜ r ≡ levelSize 12 code ⌝ }
+// How far a 16-bit code is from that of level 0.
+fn level_size(code: u16) -> u16
+    ensures { λ r. ⌜ r ≡ levelSize 16 code ⌝ }
 {
-    if code < 1536 {
-        1536 - code
+    if code < OFFSET {
+        OFFSET - code
     } else {
-        code - 1536
+        code - OFFSET
     }
+}
+
+// How many 16-bit levels make one of 12 bits.
+const PER_LEVEL: u32 = 16;
+
+// The light of a 16-bit level without its sign: the entry of its 12-bit level, and its share of the rise to
+// the next entry.
+fn light_between(lights: &[u32; 2561], level: u32) -> u32
+    requires { ⌜ LightTable (now lights) × (level < levels 16) ⌝ }
+    ensures { λ r. ⌜ r ≡ lightBetween level ⌝ }
+{
+    let k = (level / PER_LEVEL) as usize;
+    let light = lights[k];
+    let rise = lights[k + 1] - light;
+    light + (rise * (level % PER_LEVEL) + PER_LEVEL / 2) / PER_LEVEL
 }
 
 fn with_sign(negative: bool, magnitude: u32) -> i32
@@ -138,7 +171,7 @@ fn light_to_codes(
     src: &[i32],
     dst: &mut [u8],
 ) -> Answer
-    requires { ⌜ (offersLight (bits depth) ≡ true) × StartTable (bits depth) (now starts) × ThresholdTable (bits depth) (now thresholds) ⌝ }
+    requires { ⌜ (offersCodes (bits depth) ≡ true) × StartTable (bits depth) (now starts) × ThresholdTable (bits depth) (now thresholds) ⌝ }
     ensures answer { λ r. ⌜ said r ≡ lightToCodesSays (bits depth) (length (now (src .entry))) (length (now (dst .entry))) ⌝ }
     ensures bytes { λ r. ⌜ now (dst .exit) ≡ leaves (lightToCodesSays (bits depth) (length (now (src .entry))) (length (now (dst .entry)))) (lightToCodes (bits depth) (now (src .entry))) (now (dst .entry)) ⌝ }
 {
@@ -249,23 +282,22 @@ pub enum LightFound {
 pub fn light_of_code(depth: u32, code: u16) -> LightFound
     ensures { λ r. ⌜ lightSaid r ≡ lightSays depth code ⌝ }
 {
-    match depth {
-        10 => light_at(Depth::Ten, code),
-        12 => light_at(Depth::Twelve, code),
-        _ => LightFound::Refused(Refusal::DepthNotOffered),
+    match depth_of(depth) {
+        Offer::Offered(n) => light_at(n, code),
+        Offer::NotOffered => LightFound::Refused(Refusal::DepthNotOffered),
     }
 }
 
-// The same at a depth that is offered.
+// The same at a depth that is offered. The factor is the step of 16 bits, which is 128, over that of the
+// depth.
 fn light_at(depth: Depth, code: u16) -> LightFound
-    requires { ⌜ offersLight (bits depth) ≡ true ⌝ }
     ensures { λ r. ⌜ lightSaid r ≡ lightSays (bits depth) code ⌝ }
 {
     if greatest_of(depth) < code {
         return LightFound::Refused(Refusal::SampleTooGreat);
     }
     let lights = light_table();
-    LightFound::Light(light_of(&lights, 8 / step_of(depth) * code))
+    LightFound::Light(light_of(&lights, 128 / step_of(depth) * code))
 }
 
 // The code of a light, or why it has none.

@@ -1,7 +1,10 @@
 pub mod Search
 pub mod Every
 pub mod Light
+pub mod Neighbours
+pub mod Between
 pub mod Scaling
+pub mod Sixteen
 pub mod Level
 pub mod Grouping
 pub mod Bounds

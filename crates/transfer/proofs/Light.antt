@@ -1,11 +1,11 @@
--- Light by level: when a number is the light of a level, so that a table of light is right by tests; and that it fits 31 bits.
+-- Light by level: when a number is the light of a level, so that a table of light is right by tests.
 -- Assumes nothing.
-use Prim.Native.Nat.{ℕ, suc, _-_, _*_, _^_, _≤_, _<_}
-use mathlib.Core.Path.{_≡_, refl, sym}
+use Prim.Native.Nat.{ℕ, suc, _-_, _*_, _^_}
+use mathlib.Core.Path.{_≡_, sym}
 use mathlib.Core.Bool.{Bool, true, false, cond, not, and-eq-true-iff, _&&_}
 use mathlib.Core.List.{List}
 use native.Mathlib.Omega.{arith}
-use native.Mathlib.Nat.{le-trans, mul-le-mul-right, pow-le-pow-left, div-lt-iff-lt-mul}
+use native.Mathlib.Nat.{le-trans, mul-le-mul-right, pow-le-pow-left}
 use borrow.Author.Tests.{leb-true, le-leb, eqb-true, not-true}
 use lib.Dec.{leb, eqb}
 use lib.ListN.{length, getD}
@@ -14,7 +14,7 @@ use Rattle.transfer.specs.Search.{lastPassing}
 use Rattle.esrgb.specs.Depths.{scale}
 use Rattle.transfer.specs.Light.{lowLevel, reachesLight, greatestLight, lightOfLevel}
 use Rattle.transfer.specs.HowTabled.{levels, LightTable}
-use Rattle.transfer.proofs.Search.{Falls, last-is, last-most}
+use Rattle.transfer.proofs.Search.{Falls, last-is}
 use Rattle.transfer.proofs.Every.{every, passes-at}
 
 pub reaches-light-falls : (S v : ℕ) → Falls (reachesLight S v)
@@ -43,20 +43,6 @@ unfolding lightOfLevel isLight
 light-is S v q t = light-by S v q (lowLevel S v) t
 
 -- The table of light, by one test over all of it. The table itself is read off the goal.
-pub light-table-holds : {lights : List ℕ} → length lights ≡ levels 12 → every (isLight (scale 12)) 0 lights ≡ true → LightTable lights
+pub light-table-holds : {lights : List ℕ} → length lights ≡ suc (levels 12) → every (isLight (scale 12)) 0 lights ≡ true → LightTable lights
 light-table-holds {lights} size t =
-    record { at = λ v h. sym (light-is (scale 12) v (getD lights v 0) (passes-at (isLight (scale 12)) lights t v (rw size h))) }
-
--- A light fits 32 bits with a sign (rule 6.1).
-small-by :
-    (S v : ℕ) → 1 ≤ S → (b : Bool) → lowLevel S v ≡ b
-    → cond b (nearest (10 ^ 8 * v) (1292 * S)) (lastPassing (reachesLight S v) greatestLight) < 2 ^ 31
-unfolding nearest
-small-by S v s true e =
-    let line : 100000 * v ≤ 4045 * S = leb-true _ _ e in
-    div-lt-iff-lt-mul {k = 2 * (1292 * S)} (omega arith) .1 (omega arith)
-small-by S v s false e = omega (arith, last-most (reachesLight S v) greatestLight)
-
-pub light-small : (S v : ℕ) → 1 ≤ S → lightOfLevel S v < 2 ^ 31
-unfolding lightOfLevel
-light-small S v s = small-by S v s (lowLevel S v) refl
+    record { at = λ v h. sym (light-is (scale 12) v (getD lights v 0) (passes-at (isLight (scale 12)) lights t v (omega (arith, size)))) }

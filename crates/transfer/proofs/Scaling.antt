@@ -1,10 +1,9 @@
--- Rule 6.6: the light of a level depends on its proportion to the scale alone, so 10-bit levels are 12-bit levels times 4.
+-- Rule 6.6: the light of a level depends on its proportion to the scale alone, so every code is a 16-bit code of the same light.
 -- Assumes nothing.
 use Prim.Native.Nat.{ℕ, zero, suc, _+_, _-_, _*_, _^_, _/_, _≤_, _<_}
 use mathlib.Core.Path.{_≡_, refl, sym, ap, _∙_}
-use mathlib.Core.Bool.{true, false≢true}
 use native.Mathlib.Omega.{arith}
-use native.Mathlib.Nat.{pow-zero, pow-suc, mul-add, mul-sub, mul-left-comm, mul-mul-mul-comm, mul-div-mul-left, mul-le-mul-left, le-of-mul-le-mul-left, lt-of-mul-lt-mul-left, mul-lt-mul-of-pos-left, mul-pos, lt-of-not-le}
+use native.Mathlib.Nat.{pow-zero, pow-suc, mul-add, mul-sub, mul-left-comm, mul-mul-mul-comm, mul-div-mul-left, mul-le-mul-left, le-of-mul-le-mul-left, lt-of-mul-lt-mul-left, mul-lt-mul-of-pos-left, mul-pos, one-mul, lt-of-not-le}
 use native.Mathlib.Decide.{decLe}
 use borrow.Author.Tests.{le-leb, lt-leb}
 use lib.Dec.{leb, ltb}
@@ -15,7 +14,8 @@ use Rattle.esrgb.specs.declared.Depth.{Depth}
 use Rattle.esrgb.specs.declared.Depth.the-variants.{Ten, Twelve, Sixteen}
 use Rattle.esrgb.specs.Depths.{bits, greatest, offset, step, scale}
 use Rattle.esrgb.proofs.Scale.{Scale}
-use Rattle.transfer.specs.Light.{offersLight, lowLevel, reachesLight, lightOfLevel, signed, lightOfCode}
+use Rattle.transfer.specs.Light.{lowLevel, reachesLight, lightOfLevel, perLevel, lightBetween, lightAt, signed, lightOfCode}
+use Rattle.transfer.proofs.Between.{on-level}
 
 pub pow-mul : (x y n : ℕ) → (x * y) ^ n ≡ x ^ n * y ^ n
 pow-mul x y zero = rw (pow-zero (x * y), pow-zero x, pow-zero y)
@@ -70,39 +70,46 @@ module _ (m : ℕ) (some : zero < m) where
       let test : reachesLight (m * S) (m * v) ≡ reachesLight S v = λ i q. reaches-scaled S v q i in
       rw (line-scaled S v, test, mul-left-comm (10 ^ 8) m v, mul-left-comm 1292 m S, nearest-scaled (10 ^ 8 * v) (1292 * S))
 
--- The light of a code, at any scale and offset.
-abbrev lightFrom : ℕ → ℕ → ℕ → ℤ
-lightFrom S o code = signed (ltb code o) (lightOfLevel S ((code - o) + (o - code)))
+-- The light of a code, by any rule of levels and any offset.
+abbrev lightFrom : (ℕ → ℕ) → ℕ → ℕ → ℤ
+lightFrom light o code = signed (ltb code o) (light ((code - o) + (o - code)))
 
-from-scaled : (m : ℕ) → zero < m → (S o code : ℕ) → lightFrom (m * S) (m * o) (m * code) ≡ lightFrom S o code
-from-scaled m some S o code =
-    rw (ltb-times m some code o, ← mul-sub m o code, ← mul-sub m code o, ← mul-add m (code - o) (o - code), light-scaled m some S ((code - o) + (o - code)))
+from-scaled :
+    (m : ℕ) → zero < m → (wide narrow : ℕ → ℕ) → ((v : ℕ) → wide (m * v) ≡ narrow v)
+    → (o code : ℕ) → lightFrom wide (m * o) (m * code) ≡ lightFrom narrow o code
+from-scaled m some wide narrow same o code =
+    rw (ltb-times m some code o, ← mul-sub m o code, ← mul-sub m code o, ← mul-add m (code - o) (o - code), same ((code - o) + (o - code)))
 
--- ---- from a depth of light to 12 bits: m steps of depth n make one of 12 bits
+-- ---- from every depth to 16 bits: m steps of depth n make one of 16 bits
 pub record Up (n m : ℕ) : Type 0 where
   pub some : zero < m
-  pub makes : m * step n ≡ step 12
+  pub makes : m * step n ≡ step 16
+  pub same : (v : ℕ) → lightAt 16 (m * v) ≡ lightAt n v
 
-pub up : (d : Depth) → offersLight (bits d) ≡ true → Up (bits d) (8 / step (bits d))
-up Ten o = record { some = omega arith; makes = refl }
-up Twelve o = record { some = omega arith; makes = refl }
-up Sixteen o = absurd (false≢true o)
+-- A 10-bit level times 4 is a 12-bit level, and times 64 one of 16 bits.
+up-ten : (v : ℕ) → lightBetween (64 * v) ≡ lightOfLevel (scale 10) v
+up-ten v =
+    let e : 64 * v ≡ perLevel * (4 * v) = omega arith in
+    rw e (on-level (4 * v) ∙ light-scaled 4 (omega arith) (scale 10) v)
 
--- A code at depth n times m is a 12-bit code of the same light.
-pub same-light : (n m code : ℕ) → Scale n → Up n m → lightOfCode 12 (m * code) ≡ lightOfCode n code
+pub up : (d : Depth) → Up (bits d) (step 16 / step (bits d))
+up Ten = record { some = omega arith; makes = refl; same = up-ten }
+up Twelve = record { some = omega arith; makes = refl; same = on-level }
+up Sixteen = record { some = omega arith; makes = refl; same = λ v. ap lightBetween (one-mul v) }
+
+-- A code at depth n times m is a 16-bit code of the same light.
+pub same-light : (n m code : ℕ) → Scale n → Up n m → lightOfCode 16 (m * code) ≡ lightOfCode n code
 unfolding lightOfCode
 same-light n m code s u =
-    let S : m * scale n ≡ scale 12 = mul-left-comm m 255 (step n) ∙ ap (λ (x : ℕ). 255 * x) (u .makes) in
-    let o : m * offset n ≡ offset 12 = ap (λ (x : ℕ). m * x) (s .zero-at) ∙ mul-left-comm m 192 (step n) ∙ ap (λ (x : ℕ). 192 * x) (u .makes) in
-    ap (λ (x : ℕ). lightFrom x (offset 12) (m * code)) (sym S)
-    ∙ ap (λ (x : ℕ). lightFrom (m * scale n) x (m * code)) (sym o)
-    ∙ from-scaled m (u .some) (scale n) (offset n) code
+    let o : m * offset n ≡ offset 16 = ap (λ (x : ℕ). m * x) (s .zero-at) ∙ mul-left-comm m 192 (step n) ∙ ap (λ (x : ℕ). 192 * x) (u .makes) in
+    ap (λ (x : ℕ). lightFrom (lightAt 16) x (m * code)) (sym o)
+    ∙ from-scaled m (u .some) (lightAt 16) (lightAt n) (u .same) (offset n) code
 
 module _ (n m : ℕ) (s : Scale n) (u : Up n m) where
-  pub up-fits : (x : ℕ) → x ≤ greatest n → m * x < 4096
+  pub up-fits : (x : ℕ) → x ≤ greatest n → m * x < 2 ^ 16
   up-fits x h =
       let under : x < 512 * step n = omega arith in
       omega (arith, mul-lt-mul-of-pos-left under (u .some), mul-left-comm m 512 (step n), u .makes)
 
-  pub up-lights : (xs : List ℕ) → map (λ (x : ℕ). lightOfCode 12 (m * x)) xs ≡ map (lightOfCode n) xs
+  pub up-lights : (xs : List ℕ) → map (λ (x : ℕ). lightOfCode 16 (m * x)) xs ≡ map (lightOfCode n) xs
   up-lights xs = λ i. map (λ (x : ℕ). same-light n m x s u i) xs

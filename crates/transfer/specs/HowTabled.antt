@@ -12,9 +12,9 @@ use Rattle.transfer.specs.Level.{levelOfLight}
 abbrev pub levels : ℕ → ℕ
 levels n = 2 ^ n - offset n
 
--- Rule 6.6: the light of each 12-bit level from 0 up.
+-- Rule 6.6: the light of each 12-bit level from 0 up, and of the level after them, where the last straight line of rule 6.8 ends.
 pub record LightTable (lights : List ℕ) : Type 0 where
-  pub at : (v : ℕ) → v < levels 12 → getD lights v 0 ≡ lightOfLevel (scale 12) v
+  pub at : (v : ℕ) → v ≤ levels 12 → getD lights v 0 ≡ lightOfLevel (scale 12) v
 
 -- t is the threshold of level w: the least light whose level is at least w.
 pub record Threshold (S w t : ℕ) : Type 0 where

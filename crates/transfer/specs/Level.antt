@@ -1,12 +1,16 @@
--- One sample from light to code (rules 6.3 to 6.5; PIMA 7667, equations 2a to 2c, 3 and 4).
+-- One sample from light to code (rules 6.1 and 6.3 to 6.5; PIMA 7667, equations 2a to 2c, 3 and 4).
 -- Assumes nothing.
 use Prim.Native.Nat.{ℕ, suc, _+_, _-_, _*_, _^_, min}
-use mathlib.Core.Bool.{Bool, cond}
-use lib.Dec.{leb}
+use mathlib.Core.Bool.{Bool, cond, _||_}
+use lib.Dec.{eqb, leb}
 use lib.IntN.{ℤ, pos, negsuc}
 use Rattle.numbers.specs.Rounding.{nearest}
 use Rattle.esrgb.specs.Depths.{greatest, offset, scale}
 use Rattle.transfer.specs.Search.{lastPassing}
+
+-- Rule 6.1: the depths that light has codes at.
+abbrev pub offersCodes : ℕ → Bool
+offersCodes n = eqb n 10 || eqb n 12
 
 -- Below, S is a scale, q the size of a light, and y is q / 1,000,000.
 

@@ -1,4 +1,5 @@
 pub mod Search
 pub mod Light
+pub mod Exact
 pub mod Level
 pub mod HowTabled

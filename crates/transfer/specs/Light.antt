@@ -1,16 +1,12 @@
--- One sample from code to light (rules 6.1, 6.2, 6.4 and 6.5; PIMA 7667, equations 5 and 6a to 6c).
+-- One sample from code to light (rules 6.2, 6.4, 6.5 and 6.8; PIMA 7667, equations 5 and 6a to 6c).
 -- Assumes nothing.
-use Prim.Native.Nat.{ℕ, _+_, _-_, _*_, _^_}
-use mathlib.Core.Bool.{Bool, cond, _||_}
+use Prim.Native.Nat.{ℕ, _+_, _-_, _*_, _^_, _/_, _%_}
+use mathlib.Core.Bool.{Bool, cond}
 use lib.Dec.{eqb, leb, ltb}
 use lib.IntN.{ℤ, pos, negℤ}
 use Rattle.numbers.specs.Rounding.{nearest}
 use Rattle.esrgb.specs.Depths.{offset, scale}
 use Rattle.transfer.specs.Search.{lastPassing}
-
--- Rule 6.1: the depths that have light.
-abbrev pub offersLight : ℕ → Bool
-offersLight n = eqb n 10 || eqb n 12
 
 -- Below, S is a scale, v the size of a level, and u is v / S (equation 5). Comparisons are multiplied out to whole numbers.
 
@@ -39,6 +35,21 @@ greatestLight = 2 ^ 31 - 1
 unfoldable pub lightOfLevel : ℕ → ℕ → ℕ
 lightOfLevel S v = cond (lowLevel S v) (nearest (10 ^ 8 * v) (1292 * S)) (lastPassing (reachesLight S v) greatestLight)
 
+-- Rule 6.8: how many 16-bit levels make one of 12 bits.
+abbrev pub perLevel : ℕ
+perLevel = 16
+
+-- The light of the level that is j of these past a 12-bit level: on the straight line from that level's light x to the next level's, y.
+abbrev pub between : ℕ → ℕ → ℕ → ℕ
+between x y j = nearest (x * (perLevel - j) + y * j) perLevel
+
+unfoldable pub lightBetween : ℕ → ℕ
+lightBetween v = between (lightOfLevel (scale 12) (v / perLevel)) (lightOfLevel (scale 12) (v / perLevel + 1)) (v % perLevel)
+
+-- The light of a level of depth n, of sizes: by rule 6.8 at 16 bits, and by 6.2 at the others.
+abbrev pub lightAt : ℕ → ℕ → ℕ
+lightAt n v = cond (eqb n 16) (lightBetween v) (lightOfLevel (scale n) v)
+
 -- Rule 1.5: the size of a code's level. One of the two differences is 0.
 abbrev pub levelSize : ℕ → ℕ → ℕ
 levelSize n code = (code - offset n) + (offset n - code)
@@ -47,6 +58,6 @@ levelSize n code = (code - offset n) + (offset n - code)
 abbrev pub signed : Bool → ℕ → ℤ
 signed negative size = cond negative (negℤ (pos size)) (pos size)
 
--- Rule 6.2, with the sign of the level: the light of a code.
+-- With the sign of the level: the light of a code.
 unfoldable pub lightOfCode : ℕ → ℕ → ℤ
-lightOfCode n code = signed (ltb code (offset n)) (lightOfLevel (scale n) (levelSize n code))
+lightOfCode n code = signed (ltb code (offset n)) (lightAt n (levelSize n code))

@@ -1,5 +1,5 @@
-// The transfer function of one sample, both ways, at 10 and 12 bits (rules, section 6): the light of a
-// code, the code of a light, and the constant tables that spare a caller every power and most of a search.
+// The transfer function of one sample (rules, section 6): the light of a code at every depth, the code of
+// a light at 10 and 12 bits, and the constant tables that spare a caller every power and most of a search.
 // It promises of each entry what the definitions of specs/ say, and asks nothing of a caller.
 pub mod starts;
 pub mod table;

@@ -1,8 +1,9 @@
-// The table of light by 12-bit level, in millionths. Every entry is proved to be the light that
-// specs/Light.antt defines. The numbers can be made again by bisecting its power test for each level.
+// The table of light by 12-bit level, in millionths, with one level more than codes have: there the last
+// straight line between two levels ends. Every entry is proved to be the light that specs/Light.antt
+// defines. The numbers can be made again by bisecting its power test for each level.
 ghost use Rattle.transfer.specs.HowTabled.{LightTable};
 
-const LIGHTS: [u32; 2560] = [
+const LIGHTS: [u32; 2561] = [
     0,
     38,
     76,
@@ -2563,11 +2564,12 @@ const LIGHTS: [u32; 2560] = [
     1676472,
     1677980,
     1679489,
+    1680998,
 ];
 
 // A constant that is an array is built anew wherever it is named. So an operation calls this once,
 // and lends the table to its loop.
-pub fn light_table() -> [u32; 2560]
+pub fn light_table() -> [u32; 2561]
     ensures { λ r. ⌜ LightTable r ⌝ }
 {
     LIGHTS

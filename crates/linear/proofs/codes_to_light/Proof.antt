@@ -15,10 +15,9 @@ use Rattle.samples.specs.Samples.{twoByTwo}
 use Rattle.samples.specs.Faults.{sourceSays}
 use Rattle.samples.proofs.Order.{source-exact, source-samples}
 use Rattle.esrgb.specs.Depths.{bits}
-use Rattle.esrgb.proofs.Scale.{scale}
+use Rattle.esrgb.proofs.Scale.{offered-bits}
 use Rattle.linear.specs.Operations.{codesToLightSays, codesToLight}
 use Rattle.linear.proofs.Answering.{accepted-within}
-use Rattle.transfer.proofs.Scaling.{Up, up, up-fits, up-lights}
 use borrow.Author.Needs.{needs}
 use Rattle.linear.proofs.codes_to_light.Statement.{statement}
 use Rattle.linear.proofs.codes_to_light.Tie as tie
@@ -31,7 +30,7 @@ abbrev new : tie.Start → List ℤ
 new s = codesToLight (bits (s .args .depth)) (now (s .args .src))
 
 examined : (c : tie.After-examine) → says (c .before .before .before) ≡ said (c .examine .result)
-examined c = rw (c .before .before .before .pre, ← c .before .greatest-of .ensures) (sym (c .examine .ensures))
+examined c = rw (offered-bits (c .before .before .before .args .depth), ← c .before .greatest-of .ensures) (sym (c .examine .ensures))
 
 -- Accepted, the lengths fit, and no sample is above the greatest.
 accepts : (c : tie.After-enum-told) →
@@ -59,26 +58,15 @@ enum-told c = search needs
 light-table-requires : tie.Need-light-table-requires
 light-table-requires c κs = search needs
 
-step-of-requires : tie.Need-step-of-requires
-step-of-requires c κs = search needs
-
-div-write-lights : tie.Need-div-write-lights
-div-write-lights c = omega (arith, c .step-of .ensures, scale (c .before .before .before .before .before .before .before .before .args .depth))
-
-upward : (c : tie.After-step-of) → Up (bits (c .before .before .before .before .before .before .before .before .args .depth)) (8 / c .step-of .result)
-upward c =
-    let s = c .before .before .before .before .before .before .before .before in
-    rw (c .step-of .ensures) (up (s .args .depth) (s .pre))
-
 write-lights-requires : tie.Need-write-lights-requires
 write-lights-requires c κs =
-    let told = c .before .before .before .before in
+    let told = c .before .before .before in
     let e = told .before .before in
     let a = e .before .before .before .args in
     let exact = source-exact true _ false (now (a .src)) (length (now (a .dst))) _ (accepts told) in (
-      c .before .before .before .light-table .ensures,
+      c .before .before .light-table .ensures,
       omega (arith, exact),
-      λ k. up-fits _ _ (scale (a .depth)) (upward (c .before)) _ (rw (e .before .greatest-of .ensures) at (sound told k)),
+      λ k. rw (e .before .greatest-of .ensures) at (sound told k),
     )
 
 enum-told-2 : tie.Need-enum-told-2
@@ -92,11 +80,8 @@ same-length c = search needs
 
 returns : tie.Need-returns
 returns c =
-    let told = c .before .before .before .before .before .before in
-    let e = told .before .before in
-    let a = e .before .before .before .args in
-    answered-by _ _ _ _ _ _ (examined e) (told .enum-told .given .1)
-    (c .before .write-lights .ensures ∙ up-lights _ _ (scale (a .depth)) (upward (c .before .before .before)) (twoByTwo (now (a .src))))
+    let told = c .before .before .before .before .before in
+    answered-by _ _ _ _ _ _ (examined (told .before .before)) (told .enum-told .given .1) (c .before .write-lights .ensures)
 
 returns-2 : tie.Need-returns-2
 returns-2 c = answered-by _ _ _ _ (new (c .before .before .before .before .before)) _ (examined (c .before .before)) (c .enum-told2 .given .1) refl
@@ -112,8 +97,6 @@ codes-to-light-spec =
     examine-requires
     enum-told
     light-table-requires
-    step-of-requires
-    div-write-lights
     write-lights-requires
     enum-told-2
     enum-told-3

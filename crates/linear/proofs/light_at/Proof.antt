@@ -1,12 +1,12 @@
--- `linear::light_at` meets its contract: a code in range is a 12-bit code of the same light.
+-- `linear::light_at` meets its contract: a code in range is a 16-bit code of the same light.
 -- Assumes nothing.
-use Prim.Native.Nat.{_*_, _/_, _≤_, _<_}
+use Prim.Native.Nat.{_*_, _/_, _^_, _≤_, _<_}
 use mathlib.Core.Path.{_≡_, ap, _∙_}
 use native.Mathlib.Omega.{arith}
 use borrow.Author.Tests.{lt-ltb, le-ltb}
 use mir.ValLaws.{toZ-ofZ}
 use Rattle.esrgb.specs.Depths.{bits, greatest}
-use Rattle.esrgb.proofs.Scale.{scale}
+use Rattle.esrgb.proofs.Scale.{scale, offered-bits}
 use Rattle.transfer.proofs.Scaling.{Up, up, same-light, up-fits}
 use Rattle.linear.specs.Operations.{gives}
 use borrow.Author.Needs.{needs}
@@ -16,17 +16,17 @@ use Rattle.linear.proofs.light_at.Tie as tie
 within : (c : tie.After-step-of) → c .before .before .before .before .before .args .code ≤ greatest (bits (c .before .before .before .before .before .args .depth))
 within c = rw (c .before .before .before .before .greatest-of .ensures) at (c .before .before .before .if1 .left)
 
-upward : (c : tie.After-step-of) → Up (bits (c .before .before .before .before .before .args .depth)) (8 / c .step-of .result)
-upward c = rw (c .step-of .ensures) (up (c .before .before .before .before .before .args .depth) (c .before .before .before .before .before .pre))
+upward : (c : tie.After-step-of) → Up (bits (c .before .before .before .before .before .args .depth)) (128 / c .step-of .result)
+upward c = rw (c .step-of .ensures) (up (c .before .before .before .before .before .args .depth))
 
-code-fits : (c : tie.After-step-of) → 8 / c .step-of .result * c .before .before .before .before .before .args .code < 4096
+code-fits : (c : tie.After-step-of) → 128 / c .step-of .result * c .before .before .before .before .before .args .code < 2 ^ 16
 code-fits c = up-fits _ _ (scale (c .before .before .before .before .before .args .depth)) (upward c) _ (within c)
 
 greatest-of-requires : tie.Need-greatest-of-requires
 greatest-of-requires c κs = search needs
 
 returns : tie.Need-returns
-returns c = rw (c .before .before .pre, lt-ltb _ _ (rw (c .before .greatest-of .ensures) at (c .if1 .taken)))
+returns c = rw (offered-bits (c .before .before .args .depth), lt-ltb _ _ (rw (c .before .greatest-of .ensures) at (c .if1 .taken)))
 
 light-table-requires : tie.Need-light-table-requires
 light-table-requires c κs = search needs
@@ -41,13 +41,13 @@ mul-light-of : tie.Need-mul-light-of
 mul-light-of c = omega (arith, code-fits c)
 
 light-of-requires : tie.Need-light-of-requires
-light-of-requires c κs = (c .before .before .light-table .ensures, code-fits c)
+light-of-requires c κs = c .before .before .light-table .ensures
 
 returns-2 : tie.Need-returns-2
 returns-2 c =
     let s = c .before .before .before .before .before .before in
     let light = toZ-ofZ _ _ (record { sfits = c .light-of .ok }) ∙ c .light-of .ensures ∙ same-light _ _ _ (scale (s .args .depth)) (upward (c .before)) in
-    rw (s .pre, le-ltb _ _ (within (c .before))) (ap gives light)
+    rw (offered-bits (s .args .depth), le-ltb _ _ (within (c .before))) (ap gives light)
 
 pub light-at-spec : {M : Type 1} → statement M
 light-at-spec =

@@ -1,102 +1,95 @@
--- `linear::write_lights` meets its contract. The invariant: the numbers written, and the lights of the samples left, give all lights.
+-- `linear::write_lights` meets its contract: a code of each depth, times its factor, is a 16-bit code of the same light.
 -- Assumes nothing.
-use Prim.Native.Nat.{ℕ, suc, _+_, _*_, _-_, _<_, _≤_}
-use mathlib.Core.List.{List, _∷_, map}
-use mathlib.Core.Path.{_≡_, refl, sym, ap, _∙_}
-use native.Mathlib.Omega.{arith}
+use Prim.Native.Nat.{ℕ, _*_, _/_, _^_, _≤_, _<_}
+use mathlib.Core.Path.{_≡_, sym, ap, subst, _∙_}
+use mathlib.Core.List.{List, map}
 use denote.Ref.{now}
-use lib.ListN.{length, getD, drop, length-set}
-use lib.IntN.{ℤ}
-use mir.Syntax.{w32}
-use mir.Val.{toZ, ofZ}
-use mir.ValLaws.{toZ-ofZ}
 use Rattle.samples.specs.Samples.{twoByTwo}
-use Rattle.samples.proofs.Reading.{length-two}
+use Rattle.esrgb.specs.declared.Depth.{Depth}
+use Rattle.esrgb.specs.declared.Depth.the-variants.{Ten, Twelve, Sixteen}
+use Rattle.esrgb.specs.Depths.{bits, greatest, step}
+use Rattle.esrgb.proofs.Scale.{scale}
 use Rattle.transfer.specs.Light.{lightOfCode}
-use Rattle.numbers.proofs.Writing.{Written, written-more, written-all, take-one}
+use Rattle.transfer.proofs.Scaling.{up, up-fits, up-lights}
 use borrow.Author.Needs.{needs}
 use Rattle.linear.proofs.write_lights.Statement.{statement}
 use Rattle.linear.proofs.write_lights.Tie as tie
 
-abbrev lights12 : ℕ → List ℕ → List ℤ
-lights12 factor = map (λ (x : ℕ). lightOfCode 12 (factor * x))
+-- At the depth d that a match showed.
+module _ (depth d : Depth) (same : depth ≡ d) where
+  fits : (x : ℕ) → x ≤ greatest (bits depth) → step 16 / step (bits d) * x < 2 ^ 16
+  fits x h = up-fits (bits d) _ (scale d) (up d) x (subst (λ (e : Depth). x ≤ greatest (bits e)) same h)
 
-abbrev Inv-loop : tie.InvT-loop
-Inv-loop lights factor src dst₀ end k₀ dst k =
-    (k ≤ length dst₀) × (length dst ≡ length dst₀) × Written (lights12 factor) (twoByTwo src) dst k k
+  lights : (xs : List ℕ) → map (λ (x : ℕ). lightOfCode 16 (step 16 / step (bits d) * x)) xs ≡ map (lightOfCode (bits depth)) xs
+  lights xs = up-lights (bits d) _ (scale d) (up d) xs ∙ ap (λ (e : Depth). map (lightOfCode (bits e)) xs) (sym same)
 
-abbrev μ-loop : tie.MeasureT-loop
-μ-loop lights factor src dst₀ end k₀ dst k = length dst₀ - k
+enum-told : tie.Need-enum-told
+enum-told c = search needs
 
--- The code is one of 12 bits.
-code-fits : (c : tie.After-sample Inv-loop μ-loop) → c .before .before .before .before .args .factor * c .sample .result < 4096
-code-fits c =
-    let l = c .before .before in
-    rw (c .sample .ensures) (l .before .before .pre .2 (l .loop .k))
+write-multiples-requires : tie.Need-write-multiples-requires
+write-multiples-requires c κs =
+    let told = c .before in
+    let s = told .before .before .before in
+    (s .pre .0, s .pre .1, λ k. fits (s .args .depth) Ten (told .enum-told .given .1) _ (s .pre .2 k))
 
-loop-holds : tie.Need-loop-holds Inv-loop μ-loop
-loop-holds c = (omega arith, refl, refl)
+enum-told-2 : tie.Need-enum-told-2
+enum-told-2 c = search needs
 
-sample-requires : tie.Need-sample-requires Inv-loop μ-loop
-sample-requires c κs = search needs
+write-multiples-requires-2 : tie.Need-write-multiples-requires-2
+write-multiples-requires-2 c κs =
+    let told = c .before in
+    let s = told .before .before .before in
+    (s .pre .0, s .pre .1, λ k. fits (s .args .depth) Twelve (told .enum-told2 .given .1) _ (s .pre .2 k))
 
-mul-code : tie.Need-mul-code Inv-loop μ-loop
-mul-code c = omega (arith, code-fits c)
+enum-told-3 : tie.Need-enum-told-3
+enum-told-3 c = search needs
 
-light-of-requires : tie.Need-light-of-requires Inv-loop μ-loop
-light-of-requires c κs = (c .before .before .before .before .pre .0, code-fits c)
+write-multiples-requires-3 : tie.Need-write-multiples-requires-3
+write-multiples-requires-3 c κs =
+    let told = c .before in
+    let s = told .before .before .before in
+    (s .pre .0, s .pre .1, λ k. fits (s .args .depth) Sixteen (told .enum-told3 .given .1) _ (s .pre .2 k))
 
-mul-t12 : tie.Need-mul-t12 Inv-loop μ-loop
-mul-t12 c = omega arith
+same-length : tie.Need-same-length
+same-length c = search needs
 
-slice-set-from-dst : tie.Need-slice-set-from-dst Inv-loop μ-loop
-slice-set-from-dst c = omega arith
-
-add-k : tie.Need-add-k Inv-loop μ-loop
-add-k c = omega arith
-
-loop-less : tie.Need-loop-less Inv-loop μ-loop
-loop-less c = omega arith
-
-loop-again : tie.Need-loop-again Inv-loop μ-loop
-loop-again c =
-    let l = c .before .before .before in
-    let a = l .before .before .args in
-    let k = l .loop .k in
-    let light : toZ w32 (ofZ w32 (c .light-of .result)) ≡ lightOfCode 12 (a .factor * getD (twoByTwo (now (a .src))) k 0) =
-    toZ-ofZ _ _ (record { sfits = c .light-of .ok }) ∙ c .light-of .ensures ∙ ap (λ (x : ℕ). lightOfCode 12 (a .factor * x)) (c .before .sample .ensures) in (
-      omega arith,
-      simp length-set (l .loop .inv .1),
-      written-more (lights12 (a .factor)) (twoByTwo (now (a .src))) 0 k k (k + 1) (l .loop .dst) _ _ (omega (arith, length-two (now (a .src))))
-          (take-one (l .loop .dst) k _ (omega arith))
-          (ap (λ (x : ℤ). x ∷ lights12 (a .factor) (drop (suc k) (twoByTwo (now (a .src))))) (sym light))
-          (l .loop .inv .2),
-    )
-
-same-length : tie.Need-same-length Inv-loop μ-loop
-same-length c = c .before .loop .inv .1
-
-returns : tie.Need-returns Inv-loop μ-loop
+returns : tie.Need-returns
 returns c =
-    let l = c .before in
-    let a = l .before .before .args in
-    written-all (lights12 (a .factor)) (twoByTwo (now (a .src))) (l .loop .dst) (l .loop .k) (l .loop .k) refl
-    (omega (arith, length-two (now (a .src)))) (omega arith) (l .loop .inv .2)
+    let told = c .before .before .before in
+    let s = told .before .before .before in
+    rw (c .before .write-multiples .ensures) (lights (s .args .depth) Ten (told .enum-told .given .1) (twoByTwo (now (s .args .src))))
+
+same-length-2 : tie.Need-same-length-2
+same-length-2 c = search needs
+
+returns-2 : tie.Need-returns-2
+returns-2 c =
+    let told = c .before .before .before in
+    let s = told .before .before .before in
+    rw (c .before .write-multiples2 .ensures) (lights (s .args .depth) Twelve (told .enum-told2 .given .1) (twoByTwo (now (s .args .src))))
+
+same-length-3 : tie.Need-same-length-3
+same-length-3 c = search needs
+
+returns-3 : tie.Need-returns-3
+returns-3 c =
+    let told = c .before .before .before in
+    let s = told .before .before .before in
+    rw (c .before .write-multiples3 .ensures) (lights (s .args .depth) Sixteen (told .enum-told3 .given .1) (twoByTwo (now (s .args .src))))
 
 pub write-lights-spec : {M : Type 1} → statement M
 write-lights-spec =
     tie.close
     (tie.spec
-    Inv-loop
-    μ-loop
-    loop-holds
-    sample-requires
-    mul-code
-    light-of-requires
-    mul-t12
-    slice-set-from-dst
-    add-k
-    loop-less
-    loop-again
+    enum-told
+    write-multiples-requires
+    enum-told-2
+    write-multiples-requires-2
+    enum-told-3
+    write-multiples-requires-3
     same-length
-    returns)
+    returns
+    same-length-2
+    returns-2
+    same-length-3
+    returns-3)

@@ -199,7 +199,7 @@ pub fn convert(conversion: Conversion, src: &[u8], dst: &mut [u8]) -> Result<Con
 pub fn code_to_light(depth: u32, src: &[u8], dst: &mut [i32]) -> Result<usize, Refusal> {
     let form = Form::Esrgb(depth);
     let pixels = count_pixels(
-        light::offered(depth),
+        samples::offered(depth),
         Extent::of(src, form.width()),
         Extent::of(dst, 1),
     )?;
@@ -217,7 +217,7 @@ pub fn code_to_light(depth: u32, src: &[u8], dst: &mut [i32]) -> Result<usize, R
 pub fn light_to_code(depth: u32, src: &[i32], dst: &mut [u8]) -> Result<usize, Refusal> {
     let form = Form::Esrgb(depth);
     let pixels = count_pixels(
-        light::offered(depth),
+        light::has_codes(depth),
         Extent::of(src, 1),
         Extent::of(dst, form.width()),
     )?;

@@ -3,9 +3,11 @@
 
 use crate::big::Big;
 use crate::samples::{greatest, nearest, offset, scale};
+use std::cmp::Ordering;
+use std::sync::LazyLock;
 
-/// Is light offered at this depth?
-pub fn offered(depth: u32) -> bool {
+/// Has light codes at this depth? Codes of every depth have light.
+pub fn has_codes(depth: u32) -> bool {
     [10, 12].contains(&depth)
 }
 
@@ -24,7 +26,7 @@ fn last_passing(top: u64, passes: impl Fn(u64) -> bool) -> u64 {
     pass
 }
 
-/// The light of a level without its sign.
+/// The light of a level without its sign, by rule 6.2.
 fn light_of_level(depth: u32, level: i64) -> i64 {
     let scale = scale(depth);
     if 100_000 * level <= 4045 * scale {
@@ -41,10 +43,50 @@ fn light_of_level(depth: u32, level: i64) -> i64 {
     last_passing(1 << 31, reaches) as i64
 }
 
+/// The light of each 12-bit level from 0 to 2,560, one more than codes have.
+static AT_TWELVE: LazyLock<Vec<i64>> =
+    LazyLock::new(|| (0..=2560).map(|level| light_of_level(12, level)).collect());
+
+/// The light of a 16-bit level without its sign: it lies between those of two 12-bit levels (rule 6.8).
+fn light_between(level: i64) -> i64 {
+    let (below, sixteenths) = ((level / 16) as usize, level % 16);
+    let sum = AT_TWELVE[below] * (16 - sixteenths) + AT_TWELVE[below + 1] * sixteenths;
+    nearest(sum, 16)
+}
+
 /// The light of a code.
 pub fn from_code(depth: u32, code: i64) -> i32 {
     let level = code - offset(depth);
-    (level.signum() * light_of_level(depth, level.abs())) as i32
+    let size = match depth {
+        16 => light_between(level.abs()),
+        _ => light_of_level(depth, level.abs()),
+    };
+    (level.signum() * size) as i32
+}
+
+/// The exact light of a level without its sign, before any rounding, compared with a whole number.
+fn compare_exact(depth: u32, level: u64, number: u64) -> Ordering {
+    let scale = scale(depth) as u64;
+    if 100_000 * level <= 4045 * scale {
+        return (100_000_000 * level).cmp(&(1292 * scale * number));
+    }
+    let power = Big::new(1_000_000)
+        .power(5)
+        .times(Big::new(200 * level + 11 * scale).power(12));
+    power.cmp(
+        &Big::new(number)
+            .power(5)
+            .times(Big::new(211 * scale).power(12)),
+    )
+}
+
+/// Is a light within so many millionths of the exact light of a code (rule 6.9)?
+pub fn is_near(depth: u32, code: i64, light: i32, millionths: i64) -> bool {
+    let level = code - offset(depth);
+    let light = i64::from(light) * if level < 0 { -1 } else { 1 };
+    let compared = |number: i64| compare_exact(depth, level.unsigned_abs(), number as u64);
+    let (low, high) = (light - millionths, light + millionths);
+    high >= 0 && compared(high).is_le() && (low <= 0 || compared(low).is_ge())
 }
 
 /// Is light `q`, without its sign and above the line, at least half a level past `level − 1`?
@@ -113,6 +155,10 @@ mod tests {
             [38, -38, 3111, 1_000_000]
         );
         assert_eq!(from_code(10, 20 + 384), 3035);
+        assert_eq!(
+            [16, 8, 4, -4, 40_959, -24_576].map(|v| from_code(16, v + 24_576)),
+            [38, 19, 10, -10, 1_680_904, -527_115]
+        );
         assert_eq!(to_code(12, 3130), 1618);
         assert_eq!(to_code(12, 3131), 1619);
     }
@@ -135,6 +181,20 @@ mod tests {
             assert_eq!(to_code(10, light), at_ten);
             assert_eq!(to_code(12, light), at_twelve);
         }
+    }
+
+    /// Level 1 of 16 bits has an exact light of 2.371.., and level 40,959 one of 1,680,903.6...
+    #[test]
+    fn near_is_by_the_exact_light() {
+        let near = |level: i64, light, most| is_near(16, level + 24_576, light, most);
+        assert!(near(1, 2, 1) && !near(1, 2, 0));
+        assert!(near(1, 3, 1) && near(1, 4, 2) && near(1, 1, 2));
+        assert!(!near(1, 5, 2) && !near(1, 0, 2) && !near(1, -2, 2));
+        assert!(near(-1, -2, 1) && !near(-1, 2, 2) && !near(-1, -5, 2));
+        assert!(near(0, 0, 0) && near(0, -2, 2) && !near(0, -1, 0));
+        assert!(near(40_959, 1_680_904, 1) && !near(40_959, 1_680_904, 0));
+        assert!(near(40_959, 1_680_902, 2) && !near(40_959, 1_680_901, 2));
+        assert!(near(32_640, 1_000_000, 0));
     }
 
     #[test]

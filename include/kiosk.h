@@ -26,8 +26,8 @@
  * - During a call nobody else writes what the call is given, or reads what it writes.
  *
  * Pixels are three samples, row by row (rules 3.1, 3.2). Samples of 8 bits are single bytes; all
- * others take two, the low one first. Depths offered are 10, 12 and 16, for linear light 10 and 12;
- * any other may be asked for and is refused with 9.
+ * others take two, the low one first. Depths offered are 10, 12 and 16, and 10 and 12 for codes from
+ * linear light; any other may be asked for and is refused with 9.
  */
 #ifndef KIOSK_H
 #define KIOSK_H
@@ -145,11 +145,12 @@ void kiosk_both_runs(uint32_t depth, const uint8_t *picture, size_t picture_len,
 
 /* ---- Linear light (rule 6), in signed millionths of reference white. Both give the pixel count. ---- */
 
-/* Converts e-sRGB codes to light: dst_len counts numbers. Refuses with 9, 10, 16, 11 or 12. */
+/* Converts e-sRGB codes of 10, 12 or 16 bits to light: dst_len counts numbers. At 16 bits a light is within two
+ * millionths of the exact one (rule 6.9). Refuses with 9, 10, 16, 11 or 12. */
 int64_t kiosk_code_to_light(uint32_t depth, const uint8_t *src, size_t src_len,
                             int32_t *dst, size_t dst_len, size_t *place);
 
-/* Converts light to e-sRGB codes, clipping: src_len counts numbers. Refuses with 9, 16 or 11. */
+/* Converts light to e-sRGB codes of 10 or 12 bits, clipping: src_len counts numbers. Refuses with 9, 16 or 11. */
 int64_t kiosk_light_to_code(uint32_t depth, const int32_t *src, size_t src_len,
                             uint8_t *dst, size_t dst_len);
 

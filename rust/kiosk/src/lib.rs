@@ -122,8 +122,8 @@ pub fn both_runs(
     }
 }
 
-/// Converts e-sRGB codes of 10 or 12 bits to linear light, in signed millionths of reference white, and
-/// gives the pixel count.
+/// Converts e-sRGB codes of 10, 12 or 16 bits to linear light, in signed millionths of reference white, and
+/// gives the pixel count. At 16 bits each is within two millionths of the exact light (rule 6.9).
 pub fn code_to_light(depth: u32, src: &[u8], dst: &mut [i32]) -> Result<usize, Refusal> {
     counted(calls::code_to_light(depth, src, dst))
 }

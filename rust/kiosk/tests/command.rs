@@ -169,7 +169,7 @@ fn converts_by_every_chain() {
                 assert!(done.status.success(), "{}", text(&done.stderr));
             }
         }
-        for light in ["light10", "light12"] {
+        for light in ["light10", "light12", "light16"] {
             let words = [
                 "convert", "in.spool", frame, "--to", light, "--out", "light",
             ];
@@ -225,6 +225,29 @@ fn raw(folder: &Path, file: &str, form: &str) -> Vec<u8> {
     let done = kiosk(folder, &words);
     assert!(done.status.success(), "{words:?}: {}", text(&done.stderr));
     fs::read(folder.join("raw.pixels")).expect("pixels")
+}
+
+/// Rule 10.2: levels of 16 bits between those of 12 have a light of their own, and at 12 bits that of the nearest code.
+/// A 12-bit frame has the same light at both depths.
+#[test]
+fn converts_to_light_at_sixteen_bits() {
+    let folder = folder("light16");
+    let numbers = |lights: &[i32]| lights.iter().flat_map(|q| q.to_le_bytes()).collect();
+    let holds = |file: &str, form: &str, lights: &[i32]| {
+        let expected: Vec<u8> = numbers(lights);
+        assert_eq!(raw(&folder, file, form), expected, "{file} as {form}");
+    };
+    let sixteen = one_frame(2, 16, &wide(&[24_580, 24_572, 65_535, 0, 24_584, 57_216]));
+    fs::write(folder.join("sixteen"), sixteen).expect("the spool is written");
+    let lights = [10, -10, 1_680_904, -527_115, 19, 1_000_000];
+    holds("sixteen", "light16", &lights);
+    let lights = [0, 0, 1_679_489, -527_115, 38, 1_000_000];
+    holds("sixteen", "light12", &lights);
+    let twelve = one_frame(2, 12, &wide(&[1537, 1535, 4095]));
+    fs::write(folder.join("twelve"), twelve).expect("the spool is written");
+    for form in ["light12", "light16"] {
+        holds("twelve", form, &[38, -38, 1_679_489]);
+    }
 }
 
 /// Red and blue of sRGB to the standard's YCC, written raw and as a spool, and that spool's frame to its own form.
@@ -496,7 +519,9 @@ fn bad_input_fails_clearly() {
         2,
         "--to is missing",
     );
-    for form in ["cmyk", "esycc", "esycc8", "esycc11", "sycc8", "sycc10"] {
+    for form in [
+        "cmyk", "esycc", "esycc8", "esycc11", "sycc8", "sycc10", "light", "light8",
+    ] {
         fails(
             &folder,
             &["convert", "in.spool", "0", "--to", form, "--out", out],

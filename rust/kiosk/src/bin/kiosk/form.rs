@@ -45,6 +45,7 @@ impl Target {
         match word {
             "light10" => Some(Target::Light(10)),
             "light12" => Some(Target::Light(12)),
+            "light16" => Some(Target::Light(16)),
             _ => {
                 let (_, form) = FORMS.into_iter().find(|(name, _)| *name == word)?;
                 Some(Target::Picture(form))

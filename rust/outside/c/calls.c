@@ -329,7 +329,8 @@ static void light(void)
     CHECK(kiosk_light_to_code(12, numbers, 6, again, sizeof again) == 2);
     CHECK(code_at(again, 0) == 1618 && code_at(again, 1) == 1619);
     CHECK(code_at(again, 2) == 0 && code_at(again, 3) == 4095);
-    CHECK(kiosk_code_to_light(16, codes, sizeof codes, numbers, 6, &place) == -KIOSK_DEPTH_NOT_OFFERED);
+    CHECK(kiosk_code_to_light(14, codes, sizeof codes, numbers, 6, &place) == -KIOSK_DEPTH_NOT_OFFERED);
+    CHECK(kiosk_light_to_code(16, numbers, 6, again, sizeof again) == -KIOSK_DEPTH_NOT_OFFERED);
     CHECK(kiosk_code_to_light(12, codes, 11, numbers, 6, &place) == -KIOSK_NOT_WHOLE_SAMPLES);
     CHECK(kiosk_code_to_light(12, codes, 10, numbers, 5, &place) == -KIOSK_NOT_WHOLE_PIXELS);
     CHECK(kiosk_light_to_code(12, numbers, 5, again, 10) == -KIOSK_NOT_WHOLE_PIXELS);
@@ -339,6 +340,26 @@ static void light(void)
     put_code(codes, 5, 4096);
     CHECK(kiosk_code_to_light(12, codes, sizeof codes, numbers, 6, &place) == -KIOSK_SAMPLE_TOO_GREAT);
     CHECK(place == 10);
+}
+
+/* 16 bits: a level of 12 bits, a tie on the line on both sides of black, and the ends. No code is too great. */
+static void light_at_sixteen(void)
+{
+    uint8_t codes[12];
+    int32_t numbers[6];
+    size_t place = 77;
+    const unsigned levels[6] = {24592, 24580, 24572, 57216, 65535, 0};
+
+    for (size_t k = 0; k < 6; k++)
+        put_code(codes, k, levels[k]);
+    CHECK(kiosk_code_to_light(16, codes, sizeof codes, numbers, 6, &place) == 2);
+    CHECK(numbers[0] == 38 && numbers[1] == 10 && numbers[2] == -10 && numbers[3] == 1000000);
+    CHECK(numbers[4] == 1680904 && numbers[5] == -527115);
+    numbers[5] = 7;
+    CHECK(kiosk_code_to_light(16, codes, 11, numbers, 6, &place) == -KIOSK_NOT_WHOLE_SAMPLES);
+    CHECK(kiosk_code_to_light(16, codes, 10, numbers, 5, &place) == -KIOSK_NOT_WHOLE_PIXELS);
+    CHECK(kiosk_code_to_light(16, codes, sizeof codes, numbers, 5, &place) == -KIOSK_WRONG_DESTINATION_LENGTH);
+    CHECK(numbers[0] == 38 && numbers[5] == 7 && place == 77);
 }
 
 /* Does a pixel hold these three codes? */
@@ -500,6 +521,7 @@ int main(void)
     both_runs();
     both_runs_clipped();
     light();
+    light_at_sixteen();
     tints();
     spools();
     spools_of_standard_ycc();

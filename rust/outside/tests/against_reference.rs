@@ -11,7 +11,7 @@ use std::time::Instant;
 /// A part of the tests: what it compares, and the function that gives how many.
 type Part = (&'static str, fn() -> u64);
 
-const PARTS: [Part; 23] = [
+const PARTS: [Part; 24] = [
     (
         "samples: every code of every depth",
         parts::pictures::every_sample,
@@ -65,6 +65,10 @@ const PARTS: [Part; 23] = [
         parts::pictures::runs_with_refusals,
     ),
     ("codes to light: every code", parts::light::every_code),
+    (
+        "light at 16 bits: every code near the exact light",
+        parts::light::near_the_exact_light,
+    ),
     (
         "light to codes: every light from -2,100,000 to 2,100,000",
         parts::light::every_light,

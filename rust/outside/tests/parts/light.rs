@@ -5,7 +5,7 @@ use reference::{buffers, light, samples};
 use std::collections::BTreeSet;
 use std::sync::LazyLock;
 
-const DEPTHS: [u32; 2] = [10, 12];
+const DEPTHS: [u32; 3] = [10, 12, 16];
 
 /// The greatest light whose code the reference works out beforehand.
 const TOP: i32 = 2_100_000;
@@ -37,25 +37,51 @@ fn codes_of(lights: &[i32], depth: u32) -> Vec<u16> {
         .collect()
 }
 
-/// Every code of both depths to light, in all three places.
+/// The lights of codes, each of which stands in all three places of a pixel.
+fn lights_of(codes: &[u16], depth: u32) -> Vec<[i32; 3]> {
+    let src: Vec<u8> = codes
+        .iter()
+        .flat_map(|code| [code.to_le_bytes(); 3])
+        .flatten()
+        .collect();
+    let (answer, lights) = guarded(&vec![7; 3 * codes.len()], -1, |dst| {
+        kiosk::code_to_light(depth, &src, dst)
+    });
+    assert_eq!(answer, Ok(codes.len()));
+    lights.chunks_exact(3).map(|p| [p[0], p[1], p[2]]).collect()
+}
+
+/// Every code of every depth to light, in all three places.
 pub fn every_code() -> u64 {
     let mut count = 0;
     for depth in DEPTHS {
-        let codes: Vec<u16> = (0..=samples::greatest(depth) as u16)
-            .flat_map(|code| [code; 3])
-            .collect();
-        let src: Vec<u8> = codes.iter().flat_map(|code| code.to_le_bytes()).collect();
-        let (answer, lights) = guarded(&vec![7; codes.len()], -1, |dst| {
-            kiosk::code_to_light(depth, &src, dst)
-        });
-        assert_eq!(answer, Ok(codes.len() / 3));
-        for (&code, &found) in codes.iter().zip(&lights) {
+        let codes: Vec<u16> = (0..=samples::greatest(depth) as u16).collect();
+        for (&code, found) in codes.iter().zip(lights_of(&codes, depth)) {
             let expected = light::from_code(depth, i64::from(code));
-            assert_eq!(found, expected, "code {code} at {depth} bits to light");
-            count += 1;
+            assert_eq!(found, [expected; 3], "code {code} at {depth} bits to light");
+            count += 3;
         }
     }
     count
+}
+
+/// Rule 6.9: the light of every 16-bit code is within two millionths of the exact light, and one would not do. A code
+/// that is 16 times a 12-bit code has that code's light.
+pub fn near_the_exact_light() -> u64 {
+    let codes: Vec<u16> = (0..=u16::MAX).collect();
+    let lights = lights_of(&codes, 16);
+    let mut beyond_one = 0;
+    for (&code, found) in codes.iter().zip(&lights) {
+        let near = |most| light::is_near(16, i64::from(code), found[0], most);
+        assert!(near(2), "16-bit code {code} has light {}", found[0]);
+        beyond_one += u32::from(!near(1));
+    }
+    assert_eq!(beyond_one, 51);
+    let at_twelve: Vec<u16> = (0..4096).collect();
+    for (&code, found) in at_twelve.iter().zip(lights_of(&at_twelve, 12)) {
+        assert_eq!(lights[16 * usize::from(code)], found, "12-bit code {code}");
+    }
+    codes.len() as u64 + at_twelve.len() as u64
 }
 
 /// Every light of a wide range, and random ones of all 32 bits, to codes.
@@ -118,7 +144,7 @@ fn to_code_by_both(depth: u32, lights: &[i32], before: &[u8]) -> Option<u8> {
 }
 
 /// Codes of 0 to 40 bytes to light, and 0 to 40 numbers of light to codes, into destinations of every length up to what
-/// the longest needs. The codes are sound, or above what there is. Light never gets 10.
+/// the longest needs. The codes are sound, or above what there is. Light never gets 10, and at 16 bits it has no codes.
 pub fn every_length() -> u64 {
     let mut count = 0;
     let (mut of_codes, mut of_light) = (BTreeSet::new(), BTreeSet::new());
@@ -136,7 +162,7 @@ pub fn every_length() -> u64 {
         }
     }
     assert_eq!(of_codes, BTreeSet::from([10, 11, 12, 16]));
-    assert_eq!(of_light, BTreeSet::from([11, 16]));
+    assert_eq!(of_light, BTreeSet::from([9, 11, 16]));
     count
 }
 
@@ -145,8 +171,12 @@ pub fn refusals() -> u64 {
     let mut random = Random::new(4);
     let mut count = 0;
     for _ in 0..40_000 {
-        let depth = random.pick(&[10, 12, 10, 12, 16, 8, 11, 0, u32::MAX]);
-        let top = if depth == 10 { 1100 } else { 4200 };
+        let depth = random.pick(&[10, 12, 16, 10, 12, 16, 8, 11, 0, u32::MAX]);
+        let top = match depth {
+            10 => 1100,
+            16 => 65_536,
+            _ => 4200,
+        };
         let mut src: Vec<u8> = (0..3 * random.below(5))
             .flat_map(|_| (random.below(top) as u16).to_le_bytes())
             .collect();

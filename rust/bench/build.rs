@@ -46,6 +46,7 @@ fn link_before(out: &Path) {
         "change_depth",
         "to_luma_chroma",
         "from_luma_chroma",
+        "code_to_light",
     ] {
         objcopy
             .arg(format!("--redefine-sym=kiosk_{name}=before_{name}"))

@@ -20,7 +20,8 @@ static int offered(uint32_t depth)
     return depth == 10 || depth == 12 || depth == 16;
 }
 
-static int offers_light(uint32_t depth)
+/* Has light codes at this depth? Codes of every depth have light. */
+static int has_codes(uint32_t depth)
 {
     return depth == 10 || depth == 12;
 }
@@ -336,13 +337,13 @@ int64_t plain_from_sycc(uint32_t depth, const uint8_t *src, size_t src_len, uint
     return (int64_t)(src_len / 3);
 }
 
-/* Light of each 12-bit level, and the least light of each level of a depth. */
-static uint32_t lights[2560];
+/* Light of each 12-bit level, with one level more than codes have, and the least light of each level of a depth. */
+static uint32_t lights[2561];
 static uint32_t thresholds10[640], thresholds12[2560];
 
 void plain_set_tables(const uint32_t *light, const uint32_t *ten, const uint32_t *twelve)
 {
-    for (size_t i = 0; i < 2560; i++)
+    for (size_t i = 0; i < 2561; i++)
         lights[i] = light[i];
     for (size_t i = 0; i < 640; i++)
         thresholds10[i] = ten[i];
@@ -350,18 +351,39 @@ void plain_set_tables(const uint32_t *light, const uint32_t *ten, const uint32_t
         thresholds12[i] = twelve[i];
 }
 
+/* The light of each code of 10 or 12 bits: its level, at 12 bits, has an entry. */
+static void lights_of_levels(uint32_t depth, const uint8_t *src, int32_t *dst, size_t count)
+{
+    for (size_t k = 0; k < count; k++) {
+        int32_t level = (int32_t)(sample(src, k) << (12 - depth)) - 1536;
+        dst[k] = level < 0 ? -(int32_t)lights[-level] : (int32_t)lights[level];
+    }
+}
+
+/* The light of each code of 16 bits, on the line between two entries. */
+static void lights_between_levels(const uint8_t *src, int32_t *dst, size_t count)
+{
+    for (size_t k = 0; k < count; k++) {
+        int32_t level = (int32_t)sample(src, k) - 24576;
+        uint32_t size = (uint32_t)(level < 0 ? -level : level), part = size % 16;
+        const uint32_t *entry = &lights[size / 16];
+        int32_t light = (int32_t)((entry[0] * (16 - part) + entry[1] * part + 8) / 16);
+        dst[k] = level < 0 ? -light : light;
+    }
+}
+
 int64_t plain_code_to_light(uint32_t depth, const uint8_t *src, size_t src_len, int32_t *dst,
                             size_t dst_len, size_t *place)
 {
-    int64_t fault = check_lengths(offers_light(depth), src_len, 2, dst_len, src_len / 2);
+    int64_t fault = check_lengths(offered(depth), src_len, 2, dst_len, src_len / 2);
     if (fault == 0)
         fault = check_codes(depth, src, dst_len, place);
     if (fault < 0)
         return fault;
-    for (size_t k = 0; k < dst_len; k++) {
-        int32_t level = (int32_t)(sample(src, k) << (12 - depth)) - 1536;
-        dst[k] = level < 0 ? -(int32_t)lights[-level] : (int32_t)lights[level];
-    }
+    if (depth == 16)
+        lights_between_levels(src, dst, dst_len);
+    else
+        lights_of_levels(depth, src, dst, dst_len);
     return (int64_t)(src_len / 6);
 }
 
@@ -383,7 +405,7 @@ static uint32_t code_of_light(const uint32_t *thresholds, uint32_t levels, uint3
 int64_t plain_light_to_code(uint32_t depth, const int32_t *src, size_t src_len, uint8_t *dst,
                             size_t dst_len)
 {
-    int64_t fault = check_lengths(offers_light(depth), src_len, 1, dst_len, 2 * src_len);
+    int64_t fault = check_lengths(has_codes(depth), src_len, 1, dst_len, 2 * src_len);
     if (fault < 0)
         return fault;
     const uint32_t *thresholds = depth == 10 ? thresholds10 : thresholds12;

@@ -33,7 +33,7 @@ int64_t plain_tint_code(uint8_t red, uint8_t green, uint8_t blue, uint16_t pixel
 int64_t plain_tint_nonlinear(double red, double green, double blue, uint16_t pixel[3], size_t *place);
 int64_t plain_tint_light(double red, double green, double blue, uint16_t pixel[3], size_t *place);
 
-/* The light of each 12-bit level (2,560 numbers), and the least light of each level at 10 bits (640) and 12. */
+/* The light of each 12-bit level from 0 to 2,560, and the least light of each level at 10 bits (640) and 12 (2,560). */
 void plain_set_tables(const uint32_t *light, const uint32_t *ten, const uint32_t *twelve);
 
 #endif

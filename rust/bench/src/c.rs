@@ -105,16 +105,34 @@ convert_by!(
     lacks ToEsycc, FromEsycc, ToSycc, FromSycc
 );
 
+/// Declares a version's function from codes to light, and makes one over slices of it.
+macro_rules! light_by {
+    ($version:ident: $name:ident) => {
+        extern "C" {
+            fn $name(
+                depth: u32,
+                src: *const u8,
+                src_len: usize,
+                dst: *mut i32,
+                dst_len: usize,
+                place: *mut usize,
+            ) -> i64;
+        }
+
+        pub fn $version(depth: u32, src: &[u8], dst: &mut [i32]) -> i64 {
+            let mut place = 0;
+            let (s, n, d, m) = (src.as_ptr(), src.len(), dst.as_mut_ptr(), dst.len());
+            // SAFETY: the pointers and lengths are those of two slices that do not overlap, and of a local.
+            unsafe { $name(depth, s, n, d, m, &mut place) }
+        }
+    };
+}
+
+light_by!(plain_light: plain_code_to_light);
+light_by!(before_light: before_code_to_light);
+
 extern "C" {
     fn plain_set_tables(light: *const u32, ten: *const u32, twelve: *const u32);
-    fn plain_code_to_light(
-        depth: u32,
-        src: *const u8,
-        src_len: usize,
-        dst: *mut i32,
-        dst_len: usize,
-        place: *mut usize,
-    ) -> i64;
     fn plain_tint_code(red: u8, green: u8, blue: u8, pixel: *mut u16) -> i64;
     fn plain_tint_nonlinear(
         red: f64,
@@ -134,18 +152,11 @@ extern "C" {
     ) -> i64;
 }
 
-/// Gives plain C its tables: the light of each 12-bit level, and the least light of each level at 10 and 12 bits.
-pub fn set_tables(light: &[u32; 2560], ten: &[u32; 640], twelve: &[u32; 2560]) {
+/// Gives plain C its tables: the light of each 12-bit level from 0 to 2,560, and the least light of each level at 10 and
+/// 12 bits.
+pub fn set_tables(light: &[u32; 2561], ten: &[u32; 640], twelve: &[u32; 2560]) {
     // SAFETY: the arrays have the lengths that c/plain.c copies, and nothing else runs meanwhile.
     unsafe { plain_set_tables(light.as_ptr(), ten.as_ptr(), twelve.as_ptr()) }
-}
-
-/// Codes to light in plain C.
-pub fn code_to_light(depth: u32, src: &[u8], dst: &mut [i32]) -> i64 {
-    let mut place = 0;
-    let (s, n, d, m) = (src.as_ptr(), src.len(), dst.as_mut_ptr(), dst.len());
-    // SAFETY: the pointers and lengths are those of two slices that do not overlap, and of a local.
-    unsafe { plain_code_to_light(depth, s, n, d, m, &mut place) }
 }
 
 /// Light to codes in plain C.

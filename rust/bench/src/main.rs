@@ -261,8 +261,12 @@ fn check_clipped(version: c::Convert, conversion: Conversion, src: &[u8]) {
     assert_eq!(clipped, done.clipped, "a version counts otherwise");
 }
 
-/// A conversion by the library before, if it has it, and by this one, which must write the same bytes.
-fn before_and_after(conversion: Conversion, source: Source, pixels: usize) -> Option<[f64; 2]> {
+/// A conversion by the library before, if it has it, and by this one.
+fn conversion_before_and_after(
+    conversion: Conversion,
+    source: Source,
+    pixels: usize,
+) -> Option<[f64; 2]> {
     if !has(c::before, conversion) {
         return None;
     }
@@ -270,29 +274,82 @@ fn before_and_after(conversion: Conversion, source: Source, pixels: usize) -> Op
     // The clipped pixels are not compared: the library before may not count them.
     let before = |dst: &mut [u8]| given(c::before, conversion, &src, dst).answer;
     let after = |dst: &mut [u8]| converted(kiosk::convert(conversion, &src, dst));
-    let versions: [Version<u8>; 2] = [&before, &after];
-    let mut dst = Buffer::destination(conversion.needed(src.len()));
-    agreed(pixels, &mut dst, &versions);
-    let times = best(pixels, &mut dst, &versions);
-    Some([times[0], times[1]])
+    Some(before_and_after(
+        pixels,
+        conversion.needed(src.len()),
+        [&before, &after],
+    ))
 }
 
-/// Depth down from 12 bits to 10, in times of depth up from 10 to 12. The two take turns, as versions do.
+/// Code to light by both, if the library before has it at this depth: it then converts an empty picture.
+fn light_before_and_after(depth: u32, pixels: usize) -> Option<[f64; 2]> {
+    if c::before_light(depth, &[], &mut []) < 0 {
+        return None;
+    }
+    let src = Buffer::source(&codes_for_light(depth, pixels));
+    let before = |dst: &mut [i32]| c::before_light(depth, &src, dst);
+    let after = |dst: &mut [i32]| answer(kiosk::code_to_light(depth, &src, dst));
+    Some(before_and_after(pixels, 3 * pixels, [&before, &after]))
+}
+
+/// The times of both, which must write the same.
+fn before_and_after<T: Copy + Default + PartialEq>(
+    pixels: usize,
+    room: usize,
+    versions: [Version<T>; 2],
+) -> [f64; 2] {
+    let mut dst = Buffer::destination(room);
+    agreed(pixels, &mut dst, &versions);
+    let times = best(pixels, &mut dst, &versions);
+    [times[0], times[1]]
+}
+
+/// Depth down from 12 bits to 10, in times of depth up from 10 to 12.
 fn down_over_up(pixels: usize) -> f64 {
     let change = |from, to| Conversion::ChangeDepth { from, to };
     let twelve = Buffer::source(&codes(12, pixels));
     let ten = Buffer::source(&codes(10, pixels));
     let down = |dst: &mut [u8]| converted(kiosk::convert(change(12, 10), &twelve, dst));
     let up = |dst: &mut [u8]| converted(kiosk::convert(change(10, 12), &ten, dst));
-    let mut dst = Buffer::destination(6 * pixels);
-    let times = best(pixels, &mut dst, &[&down, &up]);
+    ratio(pixels, 6 * pixels, [&down, &up])
+}
+
+/// Code to light at 16 bits, in times of 12.
+fn sixteen_over_twelve(pixels: usize) -> f64 {
+    let [sixteen, twelve] = [16, 12].map(|depth| Buffer::source(&codes_for_light(depth, pixels)));
+    let at_sixteen = |dst: &mut [i32]| answer(kiosk::code_to_light(16, &sixteen, dst));
+    let at_twelve = |dst: &mut [i32]| answer(kiosk::code_to_light(12, &twelve, dst));
+    ratio(pixels, 3 * pixels, [&at_sixteen, &at_twelve])
+}
+
+/// The time of one operation over that of another. The two take turns, as versions do.
+fn ratio<T: Copy + Default>(pixels: usize, room: usize, operations: [Version<T>; 2]) -> f64 {
+    let times = best(pixels, &mut Buffer::destination(room), &operations);
     times[0] / times[1]
 }
 
+/// Ratios that have a goal: a name, the goal, and the function that measures it.
+const RATIOS: [(&str, f64, fn(usize) -> f64); 2] = [
+    ("12 to 10 / 10 to 12", 1.25, down_over_up),
+    ("light of 16 / of 12", 1.5, sixteen_over_twelve),
+];
+
+/// The photograph's codes, at 16 bits with noise below the steps of sRGB too: else all of them would be those of 12-bit
+/// codes.
+fn codes_for_light(depth: u32, pixels: usize) -> Vec<u8> {
+    let mut codes = codes(depth, pixels);
+    if depth == 16 {
+        for (low, x) in codes.iter_mut().step_by(2).zip(noise(3 * pixels)) {
+            *low += (x % 128) as u8;
+        }
+    }
+    codes
+}
+
 fn time_code_to_light(depth: u32, pixels: usize) -> Times {
-    let src = Buffer::source(&codes(depth, pixels));
+    let src = Buffer::source(&codes_for_light(depth, pixels));
     let library = |dst: &mut [i32]| answer(kiosk::code_to_light(depth, &src, dst));
-    let plain = |dst: &mut [i32]| c::code_to_light(depth, &src, dst);
+    let plain = |dst: &mut [i32]| c::plain_light(depth, &src, dst);
     Times::of(pixels, 3 * pixels, &[&library, &plain])
 }
 
@@ -335,6 +392,9 @@ fn time_tints(tints: &[Tint]) -> Times {
     Times::of(tints.len(), 3 * tints.len(), &[&library, &by(c::tint)])
 }
 
+/// The light of the 12-bit level after the last that a code has, where the last line at 16 bits ends.
+const LIGHT_BEYOND: u32 = 1_680_998;
+
 /// The tables that plain C searches, read off the library: it is plain C's loops that are timed.
 fn set_tables() {
     let codes: Vec<u8> = (1536..4096u16)
@@ -343,7 +403,7 @@ fn set_tables() {
         .collect();
     let mut numbers = vec![0; codes.len() / 2];
     kiosk::code_to_light(12, &codes, &mut numbers).expect("12-bit codes have a light");
-    let mut light = [0; 2560];
+    let mut light = [LIGHT_BEYOND; 2561];
     for (entry, number) in light.iter_mut().zip(numbers.chunks_exact(3)) {
         *entry = number[0] as u32;
     }
@@ -383,9 +443,6 @@ const TINT_LIMIT: f64 = 1000.0;
 /// How long e-sRGB to sRGB may take, in times of the library that did not count clipped pixels yet.
 const COUNT_LIMIT: f64 = 1.5;
 
-/// How long depth down may take, in times of depth up between the same two depths.
-const DOWN_LIMIT: f64 = 1.25;
-
 /// What is timed, and the goal if there is one: how long it may take, in times of the better C.
 struct Operation {
     name: String,
@@ -408,6 +465,16 @@ impl Operation {
     /// Tints are timed at one size: each is a call of its own, so that their number changes nothing.
     fn is_timed_at(&self, pixels: usize) -> bool {
         !matches!(self.call, Call::Tint(_)) || pixels <= SIZES[0]
+    }
+
+    /// How long it may take, in times of the library before: what is inside sRGB's gamut, on the way to sRGB.
+    fn goal_over_before(&self) -> Option<f64> {
+        match self.call {
+            Call::Convert(Conversion::ToSrgb { .. }, source) if source != Source::AnyColours => {
+                Some(COUNT_LIMIT)
+            }
+            _ => None,
+        }
     }
 
     fn is_missed(&self, times: &Times) -> bool {
@@ -493,7 +560,7 @@ fn operations() -> Vec<Operation> {
         let name = format!("back {depth}, any colours");
         (name, Conversion::FromLumaChroma { depth })
     }));
-    for depth in [10, 12] {
+    for depth in [10, 12, 16] {
         let name = format!("code {depth} to light");
         all.push(operation(name, Some(1.5), Call::CodeToLight(depth)));
     }
@@ -542,11 +609,12 @@ fn compare(operations: &[Operation], sizes: &[usize]) {
                 missed.push(format!("{} at {pixels}", operation.name));
             }
         }
-        let down = down_over_up(pixels);
-        let name = "12 to 10 / 10 to 12";
-        println!("{name:<NAME$} {pixels:>9} {down:>8.2} {DOWN_LIMIT:>33.2}");
-        if DOWN_LIMIT < down {
-            missed.push(format!("{name} at {pixels}"));
+        for (name, goal, measure) in RATIOS {
+            let found = measure(pixels);
+            println!("{name:<NAME$} {pixels:>9} {found:>8.2} {goal:>33.2}");
+            if goal < found {
+                missed.push(format!("{name} at {pixels}"));
+            }
         }
     }
     print_missed(&missed);
@@ -559,14 +627,8 @@ fn print_missed(missed: &[String]) {
     }
 }
 
-/// How long a conversion may take, in times of the library before: what is inside sRGB's gamut, on the way to sRGB.
-fn goal_over_before(conversion: Conversion, source: Source) -> Option<f64> {
-    let counts = matches!(conversion, Conversion::ToSrgb { .. });
-    (counts && source != Source::AnyColours).then_some(COUNT_LIMIT)
-}
-
-/// Times every conversion that the library before has, by it and by this one, and says which take longer than their
-/// goal.
+/// Times every conversion and code to light that the library before has, by it and by this one, and says which take
+/// longer than their goal.
 fn compare_with_before(operations: &[Operation], sizes: &[usize]) {
     println!("ns a pixel, the best of 11 to 101 rounds, checks of the input included");
     println!(
@@ -576,14 +638,18 @@ fn compare_with_before(operations: &[Operation], sizes: &[usize]) {
     let mut missed = Vec::new();
     for &pixels in sizes {
         for operation in operations {
-            let Call::Convert(conversion, source) = operation.call else {
-                continue;
+            let found = match operation.call {
+                Call::Convert(conversion, source) => {
+                    conversion_before_and_after(conversion, source, pixels)
+                }
+                Call::CodeToLight(depth) => light_before_and_after(depth, pixels),
+                Call::LightToCode(_) | Call::Tint(_) => None,
             };
-            let Some([before, after]) = before_and_after(conversion, source, pixels) else {
+            let Some([before, after]) = found else {
                 continue;
             };
             let (name, ratio) = (&operation.name, after / before);
-            let goal = goal_over_before(conversion, source);
+            let goal = operation.goal_over_before();
             println!(
                 "{name:<NAME$} {pixels:>9} {before:>8.3} {after:>8.3} {ratio:>14.2} {:>6}",
                 shown(goal)
@@ -708,6 +774,41 @@ mod tests {
         }
         assert!(refused > 100, "only {refused} sources were refused");
         assert!(clipped > 100, "only {clipped} pixels were clipped");
+    }
+
+    /// Every code of every depth to light, as many lights to codes, and what is refused: plain C gives the library's answer
+    /// and numbers.
+    #[test]
+    fn plain_c_agrees_on_light() {
+        set_tables();
+        let mut refused = 0;
+        for (depth, last) in [(10, 1023), (12, 4095), (16, 65_535), (12, 4096), (11, 1023)] {
+            let codes: Vec<u8> = (0..=last)
+                .flat_map(|x: u16| [x.to_le_bytes(); 3])
+                .flatten()
+                .collect();
+            for len in [codes.len(), codes.len() - 1, codes.len() - 2] {
+                let src = &codes[..len];
+                let (mut dst, mut other) = (vec![7; len / 2], vec![7; len / 2]);
+                let expected = told(kiosk::code_to_light(depth, src, &mut dst));
+                refused += u32::from(expected < 0);
+                assert_eq!(c::plain_light(depth, src, &mut other), expected);
+                assert!(dst == other, "{len} bytes of codes of {depth} bits");
+                let (mut back, mut again) = (vec![7; 2 * dst.len()], vec![7; 2 * dst.len()]);
+                let expected = told(kiosk::light_to_code(depth, &dst, &mut back));
+                assert_eq!(c::light_to_code(depth, &dst, &mut again), expected);
+                assert!(
+                    back == again,
+                    "light of {len} bytes of codes of {depth} bits"
+                );
+            }
+        }
+        assert_eq!(refused, 12);
+    }
+
+    /// The answer as C gives it.
+    fn told(result: Result<usize, Refusal>) -> i64 {
+        result.map_or_else(|refusal| -i64::from(refusal.fault.number()), |n| n as i64)
     }
 
     /// Doubles of any bits, near the codes and halfway between them: plain C gives the library's answer and pixel.

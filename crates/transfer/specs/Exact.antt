@@ -19,7 +19,7 @@ atLeast S v q = cond (lowLevel S v) (leb (1292 * S * q) (10 ^ 8 * v)) (leb (numb
 unfoldable pub atMost : ℕ → ℕ → ℕ → Bool
 atMost S v q = cond (lowLevel S v) (leb (10 ^ 8 * v) (1292 * S * q)) (leb (powerSide S v 1) (numberSide S q))
 
--- The size q of a light is within m millionths of x. A difference of ℕ stops at 0, and so does x.
+-- The size q of a light is within m millionths of x. A difference of ℕ stops at 0, and x is never less.
 pub record Within (m S v q : ℕ) : Type 0 where
   pub low : atLeast S v (q - m) ≡ true
   pub high : atMost S v (q + m) ≡ true

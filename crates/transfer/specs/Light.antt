@@ -39,14 +39,16 @@ lightOfLevel S v = cond (lowLevel S v) (nearest (10 ^ 8 * v) (1292 * S)) (lastPa
 abbrev pub perLevel : ℕ
 perLevel = 16
 
--- The light of the level that is j of these past a 12-bit level: on the straight line from that level's light x to the next level's, y.
+-- On the straight line from the light x of a 12-bit level to the light y of the next, j sixteenths along. Ties go upward, which is away
+-- from zero (rule 6.4).
 abbrev pub between : ℕ → ℕ → ℕ → ℕ
 between x y j = nearest (x * (perLevel - j) + y * j) perLevel
 
+-- Rule 6.8, of sizes: the light of a 16-bit level.
 unfoldable pub lightBetween : ℕ → ℕ
 lightBetween v = between (lightOfLevel (scale 12) (v / perLevel)) (lightOfLevel (scale 12) (v / perLevel + 1)) (v % perLevel)
 
--- The light of a level of depth n, of sizes: by rule 6.8 at 16 bits, and by 6.2 at the others.
+-- The light of a level of depth n, of sizes: by rule 6.8 at 16 bits, and by 6.2 at 10 and 12.
 abbrev pub lightAt : ℕ → ℕ → ℕ
 lightAt n v = cond (eqb n 16) (lightBetween v) (lightOfLevel (scale n) v)
 

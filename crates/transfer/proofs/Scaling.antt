@@ -86,7 +86,7 @@ pub record Up (n m : ℕ) : Type 0 where
   pub makes : m * step n ≡ step 16
   pub same : (v : ℕ) → lightAt 16 (m * v) ≡ lightAt n v
 
--- A 10-bit level times 4 is a 12-bit level, and times 64 one of 16 bits.
+-- From 10 bits to 16 by way of 12: 4 times as many levels, and then 16 times.
 up-ten : (v : ℕ) → lightBetween (64 * v) ≡ lightOfLevel (scale 10) v
 up-ten v =
     let e : 64 * v ≡ perLevel * (4 * v) = omega arith in

@@ -10,7 +10,7 @@ use Rattle.esrgb.specs.declared.Depth.the-variants.{Twelve}
 use Rattle.esrgb.specs.Depths.{offset, scale}
 use Rattle.esrgb.proofs.Scale.{scale as depth-scale}
 use Rattle.transfer.specs.Light.{lightOfLevel, perLevel, lightBetween, lightAt, levelSize, signed, lightOfCode}
-use Rattle.transfer.specs.Exact.{Within, NearExact, mostApart, LightAtSixteen}
+use Rattle.transfer.specs.Exact.{NearExact, mostApart, LightAtSixteen}
 use Rattle.transfer.proofs.Between.{on-level, level-within}
 use Rattle.transfer.proofs.Scaling.{light-scaled, up, same-light}
 

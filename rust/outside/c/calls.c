@@ -309,15 +309,20 @@ static void both_runs_clipped(void)
     CHECK(answers[4] == -KIOSK_WRONG_DESTINATION_LENGTH && clipped[1] == 91);
 }
 
+static void put_six(uint8_t codes[12], const unsigned values[6])
+{
+    for (size_t k = 0; k < 6; k++)
+        put_code(codes, k, values[k]);
+}
+
 static void light(void)
 {
     uint8_t codes[12], again[12];
     int32_t numbers[6];
     size_t place = 77;
-    const unsigned levels[6] = {1537, 1535, 1618, 3576, 1536, 4095};
+    const unsigned values[6] = {1537, 1535, 1618, 3576, 1536, 4095};
 
-    for (size_t k = 0; k < 6; k++)
-        put_code(codes, k, levels[k]);
+    put_six(codes, values);
     CHECK(kiosk_code_to_light(12, codes, sizeof codes, numbers, 6, &place) == 2);
     CHECK(numbers[0] == 38 && numbers[1] == -38 && numbers[2] == 3111 && numbers[3] == 1000000 && numbers[4] == 0);
     CHECK(kiosk_light_to_code(12, numbers, 6, again, sizeof again) == 2);
@@ -348,10 +353,9 @@ static void light_at_sixteen(void)
     uint8_t codes[12];
     int32_t numbers[6];
     size_t place = 77;
-    const unsigned levels[6] = {24592, 24580, 24572, 57216, 65535, 0};
+    const unsigned values[6] = {24592, 24580, 24572, 57216, 65535, 0};
 
-    for (size_t k = 0; k < 6; k++)
-        put_code(codes, k, levels[k]);
+    put_six(codes, values);
     CHECK(kiosk_code_to_light(16, codes, sizeof codes, numbers, 6, &place) == 2);
     CHECK(numbers[0] == 38 && numbers[1] == 10 && numbers[2] == -10 && numbers[3] == 1000000);
     CHECK(numbers[4] == 1680904 && numbers[5] == -527115);

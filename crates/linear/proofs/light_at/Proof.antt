@@ -1,7 +1,7 @@
 -- `linear::light_at` meets its contract: a code in range is a 16-bit code of the same light.
 -- Assumes nothing.
 use Prim.Native.Nat.{_*_, _/_, _^_, _≤_, _<_}
-use mathlib.Core.Path.{_≡_, ap, _∙_}
+use mathlib.Core.Path.{ap, _∙_}
 use native.Mathlib.Omega.{arith}
 use borrow.Author.Tests.{lt-ltb, le-ltb}
 use mir.ValLaws.{toZ-ofZ}

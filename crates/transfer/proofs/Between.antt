@@ -90,25 +90,27 @@ line-up : (x d j : ℕ) → j ≤ perLevel → between x (x + d) j ≡ x + (d * 
 unfolding nearest
 line-up x d j h = omega (arith, add-mul x d j, mul-sub x perLevel j, mul-le-mul-left x h)
 
-pub lights-rise : (v : ℕ) → v < levels 16 →
-    let k = v / perLevel in
-    (lightOfLevel (scale 12) k ≤ lightOfLevel (scale 12) (k + 1)) × (lightOfLevel (scale 12) (k + 1) < lightEnd)
-lights-rise v h = (line-of v h .rises, line-of v h .ends)
+-- The lights of the two 12-bit levels that a 16-bit level lies between.
+module _ (v : ℕ) (h : v < levels 16) where
+  abbrev below : ℕ
+  below = lightOfLevel (scale 12) (v / perLevel)
 
-pub between-is : (v : ℕ) → v < levels 16 →
-    let x = lightOfLevel (scale 12) (v / perLevel) in
-    let y = lightOfLevel (scale 12) (v / perLevel + 1) in
-    lightBetween v ≡ x + ((y - x) * (v % perLevel) + perLevel / 2) / perLevel
-unfolding lightBetween
-between-is v h =
-    let x = lightOfLevel (scale 12) (v / perLevel) in
-    let y = lightOfLevel (scale 12) (v / perLevel + 1) in
-    let e : y ≡ x + (y - x) = omega (arith, line-of v h .rises) in
-    ap (λ (z : ℕ). between x z (v % perLevel)) e ∙ line-up x (y - x) (v % perLevel) (omega arith)
+  abbrev above : ℕ
+  above = lightOfLevel (scale 12) (v / perLevel + 1)
 
-pub between-fits : (v : ℕ) → v < levels 16 → lightBetween v < 2 ^ 31
-between-fits v h =
-    let x = lightOfLevel (scale 12) (v / perLevel) in
-    let y = lightOfLevel (scale 12) (v / perLevel + 1) in
-    let share : v % perLevel ≤ perLevel = omega arith in
-    omega (arith, between-is v h, lights-rise v h, mul-le-mul-left (y - x) share)
+  pub lights-rise : below ≤ above
+  lights-rise = line-of v h .rises
+
+  pub between-is : lightBetween v ≡ below + ((above - below) * (v % perLevel) + perLevel / 2) / perLevel
+  unfolding lightBetween
+  between-is =
+      let e : above ≡ below + (above - below) = omega (arith, lights-rise) in
+      ap (λ (z : ℕ). between below z (v % perLevel)) e ∙ line-up below (above - below) (v % perLevel) (omega arith)
+
+  pub share-fits : below + (above - below) * (v % perLevel) < perLevel * lightEnd
+  share-fits =
+      let part : v % perLevel ≤ perLevel - 1 = omega arith in
+      omega (arith, line-of v h .rises, line-of v h .ends, mul-le-mul-left (above - below) part)
+
+  pub between-fits : lightBetween v < 2 ^ 31
+  between-fits = omega (arith, between-is, share-fits)

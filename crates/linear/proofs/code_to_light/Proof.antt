@@ -1,6 +1,6 @@
 -- `linear::code_to_light` meets its contract: every depth that is offered has light, and no other number of bits.
 -- Assumes nothing.
-use mathlib.Core.Path.{subst}
+use mathlib.Core.Path.{refl, subst}
 use denote.Ref.{now}
 use Rattle.samples.specs.Faults.{sourceSays}
 use Rattle.esrgb.specs.Depths.{Names}
@@ -36,7 +36,7 @@ unfolding sourceSays
 returns-2 c =
     let a = c .before .before .before .before .args in
     let none = subst (Names (a .depth)) (c .enum-told .given .1) (c .before .before .depth-of .ensures) in
-    refuses 9 _ (codesToLight (a .depth) (now (a .src))) (now (a .dst)) (rw none)
+    refuses _ _ (codesToLight (a .depth) (now (a .src))) (now (a .dst)) (rw none refl)
 
 pub code-to-light-spec : {M : Type 1} → statement M
 code-to-light-spec =

@@ -1,11 +1,11 @@
 -- `linear::light_at` meets its contract: a code in range is a 16-bit code of the same light.
 -- Assumes nothing.
 use Prim.Native.Nat.{_*_, _/_, _^_, _≤_, _<_}
-use mathlib.Core.Path.{ap, _∙_}
+use mathlib.Core.Path.{refl, ap, _∙_}
 use native.Mathlib.Omega.{arith}
 use borrow.Author.Tests.{lt-ltb, le-ltb}
 use mir.ValLaws.{toZ-ofZ}
-use Rattle.esrgb.specs.Depths.{bits, greatest}
+use Rattle.esrgb.specs.Depths.{bits, greatest, step}
 use Rattle.esrgb.proofs.Scale.{scale, offered-bits}
 use Rattle.transfer.proofs.Scaling.{Up, up, same-light, up-fits}
 use Rattle.linear.specs.Operations.{gives}
@@ -26,7 +26,7 @@ greatest-of-requires : tie.Need-greatest-of-requires
 greatest-of-requires c κs = search needs
 
 returns : tie.Need-returns
-returns c = rw (offered-bits (c .before .before .args .depth), lt-ltb _ _ (rw (c .before .greatest-of .ensures) at (c .if1 .taken)))
+returns c = rw (offered-bits (c .before .before .args .depth), lt-ltb _ _ (rw (c .before .greatest-of .ensures) at (c .if1 .taken))) refl
 
 light-table-requires : tie.Need-light-table-requires
 light-table-requires c κs = search needs
@@ -46,8 +46,10 @@ light-of-requires c κs = c .before .before .light-table .ensures
 returns-2 : tie.Need-returns-2
 returns-2 c =
     let s = c .before .before .before .before .before .before in
-    let light = toZ-ofZ _ _ (record { sfits = c .light-of .ok }) ∙ c .light-of .ensures ∙ same-light _ _ _ (scale (s .args .depth)) (upward (c .before)) in
-    rw (offered-bits (s .args .depth), le-ltb _ _ (within (c .before))) (ap gives light)
+    let n = bits (s .args .depth) in
+    let light = toZ-ofZ _ _ (record { sfits = c .light-of .ok }) ∙ c .light-of .ensures in
+    let same = same-light n (step 16 / step n) (s .args .code) (scale (s .args .depth)) (up (s .args .depth)) in
+    rw (offered-bits (s .args .depth), le-ltb _ _ (within (c .before)), ← same, ← c .before .step-of .ensures) (ap gives light)
 
 pub light-at-spec : {M : Type 1} → statement M
 light-at-spec =

@@ -4,13 +4,12 @@ use Prim.Native.Nat.{ℕ, _+_, _-_, _*_, _/_, _%_, _≤_, _<_}
 use mathlib.Core.Path.{_≡_, sym}
 use mathlib.Core.List.{List}
 use native.Mathlib.Omega.{arith}
-use native.Mathlib.Nat.{mul-le-mul-left}
 use denote.Ref.{now}
 use lib.ListN.{getD}
 use Rattle.esrgb.specs.Depths.{scale}
 use Rattle.transfer.specs.Light.{lightOfLevel, perLevel, lightBetween}
 use Rattle.transfer.specs.HowTabled.{levels, LightTable}
-use Rattle.transfer.proofs.Between.{lightEnd, lights-rise, between-is}
+use Rattle.transfer.proofs.Between.{lightEnd, lights-rise, between-is, share-fits}
 use borrow.Author.Needs.{needs}
 use Rattle.linear.proofs.light_between.Statement.{statement}
 use Rattle.linear.proofs.light_between.Tie as tie
@@ -29,13 +28,11 @@ module _ (lights : List ℕ) (table : LightTable lights) (v : ℕ) (h : v < leve
   next-is : next ≡ lightOfLevel (scale 12) (v / perLevel + 1)
   next-is = table .at (v / perLevel + 1) (omega arith)
 
-  rises : (light ≤ next) × (next < lightEnd)
+  rises : light ≤ next
   rises = rw (light-is, next-is) (lights-rise v h)
 
-  share-fits : light + (next - light) * (v % perLevel) < perLevel * lightEnd
-  share-fits =
-      let share : v % perLevel ≤ perLevel - 1 = omega arith in
-      omega (arith, rises, mul-le-mul-left (next - light) share)
+  fits : light + (next - light) * (v % perLevel) < perLevel * lightEnd
+  fits = rw (light-is, next-is) (share-fits v h)
 
   on-line : light + ((next - light) * (v % perLevel) + perLevel / 2) / perLevel ≡ lightBetween v
   on-line = rw (light-is, next-is) (sym (between-is v h))
@@ -61,22 +58,22 @@ element-copy-out-rise c = search needs
 sub-rise : tie.Need-sub-rise
 sub-rise c =
     let s = c .before .before in
-    rises (now (s .args .lights)) (s .pre .0) (s .args .level) (s .pre .1) .0
+    rises (now (s .args .lights)) (s .pre .0) (s .args .level) (s .pre .1)
 
 mul-result : tie.Need-mul-result
 mul-result c =
     let s = c .before .before in
-    omega (arith, share-fits (now (s .args .lights)) (s .pre .0) (s .args .level) (s .pre .1))
+    omega (arith, fits (now (s .args .lights)) (s .pre .0) (s .args .level) (s .pre .1))
 
 add-result : tie.Need-add-result
 add-result c =
     let s = c .before .before in
-    omega (arith, share-fits (now (s .args .lights)) (s .pre .0) (s .args .level) (s .pre .1))
+    omega (arith, fits (now (s .args .lights)) (s .pre .0) (s .args .level) (s .pre .1))
 
 add-result-2 : tie.Need-add-result-2
 add-result-2 c =
     let s = c .before .before in
-    omega (arith, share-fits (now (s .args .lights)) (s .pre .0) (s .args .level) (s .pre .1))
+    omega (arith, fits (now (s .args .lights)) (s .pre .0) (s .args .level) (s .pre .1))
 
 returns : tie.Need-returns
 returns c =

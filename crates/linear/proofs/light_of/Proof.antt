@@ -1,11 +1,9 @@
 -- `linear::light_of` meets its contract: the light of the level's size, with the level's sign.
 -- Assumes nothing.
-use mathlib.Core.Path.{_∙_, ap}
+use mathlib.Core.Path.{refl, _∙_}
 use native.Mathlib.Omega.{arith}
 use mir.ValLaws.{toZ-ofZ}
-use lib.Dec.{ltb}
-use Rattle.esrgb.specs.Depths.{offset}
-use Rattle.transfer.specs.Light.{lightBetween, signed, lightOfCode}
+use Rattle.transfer.specs.Light.{lightOfCode}
 use Rattle.transfer.proofs.Between.{between-fits}
 use borrow.Author.Needs.{needs}
 use Rattle.linear.proofs.light_of.Statement.{statement}
@@ -26,10 +24,9 @@ with-sign-requires c κs = rw (c .light-between .ensures) (between-fits _ (omega
 returns : tie.Need-returns
 unfolding lightOfCode
 returns c =
-    let s = c .before .before .before in
     toZ-ofZ _ _ (record { sfits = c .with-sign .ok })
     ∙ c .with-sign .ensures
-    ∙ ap (signed (ltb (s .args .code) (offset 16))) (c .before .light-between .ensures ∙ ap lightBetween (c .before .before .level-size .ensures))
+    ∙ rw (c .before .light-between .ensures, c .before .before .level-size .ensures) refl
 
 pub light-of-spec : {M : Type 1} → statement M
 light-of-spec =

@@ -22,6 +22,10 @@ pub test-other : (b : Bool) (n k : ℕ) (v : Verdict) → (n ≡ k → ⊥) → 
 test-other true n k v other never e = other cc
 test-other false n k v other never e = never e
 
+pub either-other : (v w : Verdict) (k : ℕ) → (v ≡ faulty k → ⊥) → (w ≡ faulty k → ⊥) → orElse v w ≡ faulty k → ⊥
+either-other sound w k never other e = other e
+either-other (faulty n) w k never other e = never e
+
 pub both-sound : (v w : Verdict) → orElse v w ≡ sound → (v ≡ sound) × (w ≡ sound)
 both-sound sound w e = (refl, e)
 both-sound (faulty n) w e = absurd (faulty-sound n e)
@@ -64,3 +68,9 @@ pub or-stands :
     (v : Verdict) (n : ℕ) (rest s : Said) → ((m : ℕ) → s ≡ accepted m → ⊥) → s ≡ refusesOr v (accepted n) → s ≡ refusesOr v rest
 or-stands sound n rest s never h = absurd (never n h)
 or-stands (faulty k) n rest s never h = h
+
+-- The same of the first of two verdicts, whatever the second and the rest are.
+pub first-stands :
+    (v w : Verdict) (n : ℕ) (rest s : Said) → ((m : ℕ) → s ≡ accepted m → ⊥) → s ≡ refusesOr v (accepted n) → s ≡ refusesOr (orElse v w) rest
+first-stands sound w n rest s never h = absurd (never n h)
+first-stands (faulty k) w n rest s never h = h

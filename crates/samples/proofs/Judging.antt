@@ -2,7 +2,7 @@
 -- Assumes nothing.
 use Prim.Native.Nat.{ℕ, zero, suc, _+_, _-_, _*_, _/_, _%_, _≤_, _<_}
 use mathlib.Core.Path.{_≡_, refl, sym, ap, _∙_}
-use mathlib.Core.Bool.{Bool, true, false, false≢true, not, _&&_, _||_}
+use mathlib.Core.Bool.{Bool, true, false, false≢true, cond, not, _&&_, _||_}
 use mathlib.Core.List.{List, [], _∷_}
 use native.Mathlib.Omega.{arith}
 use native.Mathlib.Numerals.{add-one}
@@ -13,7 +13,7 @@ use lib.ListN.{length, getD, drop}
 use lib.Seq.{drop-cons}
 use Rattle.numbers.proofs.Booleans.{or-false, and-true, and-false}
 use Rattle.numbers.proofs.Bits.{or-zero, excess-zero}
-use Rattle.refusal.specs.Answers.{sound, Said, decides}
+use Rattle.refusal.specs.Answers.{sound, faulty, Said, accepted, refusedAt, decides}
 use Rattle.samples.specs.declared.Pixel.{Pixel}
 use Rattle.samples.specs.declared.Coding.{Coding}
 use Rattle.samples.specs.declared.Coding.the-variants.{Bytes, Codes}
@@ -173,3 +173,22 @@ module _ (chroma : Bool) (greatest : ℕ) (xs : List ℕ) where
             ∙ skip-one (3 * i + 1) done (omega arith) (sound-sample chroma greatest (3 * i + 1) _ (p .second) (λ e. p .nonzero e .0))
             ∙ rw (two, ← three) (skip-one (3 * i + 2) done (omega arith) (sound-sample chroma greatest (3 * i + 2) _ (p .third) (λ e. p .nonzero e .1)));
       }
+
+-- ---- accepted: no sample is above the greatest
+within-by :
+    (top at x count : ℕ) (rest : Said) (b : Bool) → ltb top x ≡ b
+    → decides (cond b (faulty 12) sound) at rest ≡ accepted count → (x ≤ top) × (rest ≡ accepted count)
+within-by top at x count rest true t e =
+    let other : refusedAt 12 at ≡ accepted count = e in
+    let never : _≡_ {A = ℕ} 0 1 = cc in
+    absurd (omega arith)
+within-by top at x count rest false t e = (ltb-false top x t, e)
+
+pub accepted-within :
+    (top pixels count k : ℕ) (xs : List ℕ) → samplesSay (Codes top false) (accepted pixels) k xs ≡ accepted count → (i : ℕ) → getD xs i 0 ≤ top
+unfolding samplesSay fault
+accepted-within top pixels count k [] e i = omega arith
+accepted-within top pixels count k (x ∷ xs) e zero =
+    within-by top (2 * k) x count (samplesSay (Codes top false) (accepted pixels) (k + 1) xs) (ltb top x) refl e .0
+accepted-within top pixels count k (x ∷ xs) e (suc i) =
+    accepted-within top pixels count (k + 1) xs (within-by top (2 * k) x count (samplesSay (Codes top false) (accepted pixels) (k + 1) xs) (ltb top x) refl e .1) i

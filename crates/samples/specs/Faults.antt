@@ -7,7 +7,7 @@ use mathlib.Core.Bool.{Bool, true, false, cond, not, _&&_}
 use mathlib.Core.List.{List, [], _∷_}
 use lib.Dec.{eqb, ltb}
 use lib.ListN.{length}
-use Rattle.refusal.specs.Answers.{Verdict, sound, faulty, Said, accepted, decides, refusesOr}
+use Rattle.refusal.specs.Answers.{Verdict, sound, faulty, orElse, Said, accepted, decides, refusesOr}
 use Rattle.samples.specs.declared.Coding.{Coding}
 use Rattle.samples.specs.declared.Coding.the-variants.{Bytes, Codes}
 use Rattle.samples.specs.Samples.{place, sampleSize, pixelSize, samplesOf}
@@ -29,16 +29,24 @@ samplesSay coding done k [] = done
 samplesSay coding done k (x ∷ xs) =
     decides (fault coding k x) (place (wideCoding coding) k) (samplesSay coding done (k + 1) xs)
 
--- Rule 4.2, the order of refusals of every operation on pictures: is the depth offered; is the source, of `len` bytes or numbers, whole
--- samples, and is it whole pixels; has the destination the `room` for them. Samples are wide or not, in the source and in the result;
--- light is counted in numbers, one to a sample (rule 6.7). So of samples of one byte and of light, any length is whole samples.
+-- Rule 4.2: is a source of `len` bytes or numbers whole samples, and is it whole pixels? Samples are wide or not; light is counted in
+-- numbers, one to a sample (rule 6.7). So of samples of one byte and of light, any length is whole samples.
+abbrev pub lengthFault : Bool → ℕ → Verdict
+lengthFault wide len =
+    cond (not (eqb (len % sampleSize wide) 0)) (faulty 10)
+    (cond (not (eqb (len % pixelSize wide) 0)) (faulty 16)
+    sound)
+
+-- Rule 4.2: has the destination the room needed?
+abbrev pub roomFault : ℕ → ℕ → Verdict
+roomFault needed room = cond (not (eqb room needed)) (faulty 11) sound
+
+-- Rule 4.2, the order of refusals of every operation on pictures: is the depth offered; the source's length; the destination's `room`.
+-- Samples are wide or not, in the source and in the result.
 abbrev pub callFault : Bool → Bool → Bool → ℕ → ℕ → Verdict
 callFault offered wideIn wideOut len room =
     cond (not offered) (faulty 9)
-    (cond (not (eqb (len % sampleSize wideIn) 0)) (faulty 10)
-    (cond (not (eqb (len % pixelSize wideIn) 0)) (faulty 16)
-    (cond (not (eqb room (pixelSize wideOut * (len / pixelSize wideIn)))) (faulty 11)
-    sound)))
+    (orElse (lengthFault wideIn len) (roomFault (pixelSize wideOut * (len / pixelSize wideIn)) room))
 
 -- At last what the samples say.
 abbrev pub inOrder : Bool → Bool → Bool → ℕ → ℕ → Said → Said

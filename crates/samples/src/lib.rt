@@ -9,10 +9,11 @@ use refusal::Refusal;
 ghost use mathlib.Core.Path.{_≡_};
 ghost use mathlib.Core.Bool.{true, false};
 ghost use Prim.Native.Nat.{_/_, _*_, _+_, _<_};
+ghost use lib.Dec.{eqb};
 ghost use lib.ListN.{length, getD};
-ghost use Rattle.refusal.specs.Answers.{verdict, said, accepted};
+ghost use Rattle.refusal.specs.Answers.{verdict, said, accepted, refusesOr};
 ghost use Rattle.samples.specs.Samples.{sampleCount, sampleSize, pixelSize, twoByTwo, samplesOf, noPixel, read};
-ghost use Rattle.samples.specs.Faults.{fault, samplesSay, inOrder, sourceSays};
+ghost use Rattle.samples.specs.Faults.{fault, samplesSay, lengthFault, inOrder, sourceSays};
 ghost use Rattle.samples.specs.HowJudged.{leastOf, allWithin, atFault, SoundTo};
 
 // ---- sizes
@@ -201,7 +202,7 @@ fn looks_sound(chroma: bool, greatest: u16, src: &[u8]) -> bool
 
 // The first fault in a buffer of codes, or the pixel count if there is none. Nearly every picture is
 // sound, and then the quick look decides. Codes of 16 bits cannot be at fault and are not looked at.
-fn judge(chroma: bool, greatest: u16, src: &[u8], pixels: usize) -> Answer
+pub fn judge(chroma: bool, greatest: u16, src: &[u8], pixels: usize) -> Answer
     ensures { λ r. ⌜ said r ≡ samplesSay (Coding.Codes greatest chroma) (accepted pixels) 0 (twoByTwo (now (src .entry))) ⌝ }
 {
     if greatest == 65535 {
@@ -218,28 +219,48 @@ fn judge(chroma: bool, greatest: u16, src: &[u8], pixels: usize) -> Answer
 
 // ---- the order of refusals
 
-// The pixel count of a source of `len` bytes or numbers, if it is whole samples and whole pixels, and the
-// room for its result is what they need. Samples are wide or not, in the source and in the result.
-// Quotients are compared, since a product could overflow.
-pub fn count_pixels(wide_in: bool, wide_out: bool, len: usize, room: usize) -> Answer
-    ensures { λ r. ⌜ said r ≡ inOrder true «wide_in» «wide_out» len room (accepted (len / pixelSize «wide_in»)) ⌝ }
+// The pixel count of a source of `len` bytes or numbers, if it is whole samples and whole pixels.
+pub fn whole_pixels(wide: bool, len: usize) -> Answer
+    ensures { λ r. ⌜ said r ≡ refusesOr (lengthFault wide len) (accepted (len / pixelSize wide)) ⌝ }
 {
-    let sample_in = sample_size(wide_in);
-    let pixel_in = pixel_size(wide_in);
-    let pixel_out = pixel_size(wide_out);
+    let sample_in = sample_size(wide);
+    let pixel_in = pixel_size(wide);
     if len % sample_in != 0 {
         return Answer::Refused(Refusal::NotWholeSamples);
     }
     if len % pixel_in != 0 {
         return Answer::Refused(Refusal::NotWholePixels);
     }
-    if room % pixel_out != 0 {
-        return Answer::Refused(Refusal::WrongDestinationLength);
-    }
-    if room / pixel_out != len / pixel_in {
-        return Answer::Refused(Refusal::WrongDestinationLength);
-    }
     Answer::Done(len / pixel_in)
+}
+
+// Is the room what so many pixels of the result need? Quotients are compared, since a product could overflow.
+fn fits(wide: bool, pixels: usize, room: usize) -> bool
+    ensures { λ r. ⌜ r ≡ eqb room (pixelSize wide * pixels) ⌝ }
+{
+    let pixel_out = pixel_size(wide);
+    if room % pixel_out != 0 {
+        return false;
+    }
+    room / pixel_out == pixels
+}
+
+// The same if the room for the result is also what the pixels need. Samples are wide or not, in the source and
+// in the result.
+pub fn count_pixels(wide_in: bool, wide_out: bool, len: usize, room: usize) -> Answer
+    ensures { λ r. ⌜ said r ≡ inOrder true «wide_in» «wide_out» len room (accepted (len / pixelSize «wide_in»)) ⌝ }
+{
+    let counted = whole_pixels(wide_in, len);
+    match counted {
+        Answer::Done(pixels) => {
+            if !fits(wide_out, pixels, room) {
+                return Answer::Refused(Refusal::WrongDestinationLength);
+            }
+        }
+        Answer::Refused(_) => {}
+        Answer::RefusedAt(_, _) => {}
+    }
+    counted
 }
 
 // What is said of a source in bytes, for a result whose samples are wide or not, in so much room: all

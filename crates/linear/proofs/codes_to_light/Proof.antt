@@ -13,11 +13,11 @@ use Rattle.refusal.proofs.Answering.{answered-by}
 use Rattle.samples.specs.declared.Coding.the-variants.{Codes}
 use Rattle.samples.specs.Samples.{twoByTwo}
 use Rattle.samples.specs.Faults.{sourceSays}
+use Rattle.samples.proofs.Judging.{accepted-within}
 use Rattle.samples.proofs.Order.{source-exact, source-samples}
 use Rattle.esrgb.specs.Depths.{bits}
 use Rattle.esrgb.proofs.Scale.{offered-bits}
 use Rattle.linear.specs.Operations.{codesToLightSays, codesToLight}
-use Rattle.linear.proofs.Answering.{accepted-within}
 use borrow.Author.Needs.{needs}
 use Rattle.linear.proofs.codes_to_light.Statement.{statement}
 use Rattle.linear.proofs.codes_to_light.Tie as tie

@@ -41,6 +41,12 @@ abbrev pub refusesOr : Verdict → Said → Said
 refusesOr sound rest = rest
 refusesOr (faulty number) rest = refused number
 
+-- What is said of two things that are looked at one after the other: of the second only if the first is accepted.
+abbrev pub andThen : Said → Said → Said
+andThen (accepted n) next = next
+andThen (refused k) next = refused k
+andThen (refusedAt k at) next = refusedAt k at
+
 -- What a destination, or a number beside it, holds afterwards: what the operation writes if it accepts, and what was there if it refuses.
 abbrev pub leaves : {A : Type 0} → Said → A → A → A
 leaves (accepted n) new old = new

@@ -5,7 +5,7 @@ use Rattle.refusal.specs.declared.Refusal.{Refusal}
 use Rattle.refusal.specs.declared.Refusal.the-variants.{TooShort, WrongFileLength, TooManyFrames, TableOutside, NoSuchFrame}
 use Rattle.refusal.specs.declared.Refusal.the-variants.{UnknownKind, WrongSize, PixelsOutside, DepthNotOffered, NotWholeSamples}
 use Rattle.refusal.specs.declared.Refusal.the-variants.{WrongDestinationLength, SampleTooGreat, ChromaZero, TotalTooLong, InputTooLong}
-use Rattle.refusal.specs.declared.Refusal.the-variants.{NotWholePixels, NotFinite}
+use Rattle.refusal.specs.declared.Refusal.the-variants.{NotWholePixels, NotFinite, NoBudget, TooManyPixels}
 
 abbrev pub numberOf : Refusal → ℕ
 numberOf TooShort = 1
@@ -25,3 +25,5 @@ numberOf TotalTooLong = 14
 numberOf InputTooLong = 15
 numberOf NotWholePixels = 16
 numberOf NotFinite = 17
+numberOf NoBudget = 18
+numberOf TooManyPixels = 19

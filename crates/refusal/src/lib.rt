@@ -40,6 +40,10 @@ pub enum Refusal {
     NotWholePixels,
     // 17: a tint's channel that is infinite or not a number.
     NotFinite,
+    // 18: a budget of 0, so that no choice of tints may be looked at.
+    NoBudget,
+    // 19: more pixels than a sticker has.
+    TooManyPixels,
 }
 
 // The number of a refusal.
@@ -64,6 +68,8 @@ pub fn number(refusal: Refusal) -> u8
         Refusal::InputTooLong => 15,
         Refusal::NotWholePixels => 16,
         Refusal::NotFinite => 17,
+        Refusal::NoBudget => 18,
+        Refusal::TooManyPixels => 19,
     }
 }
 

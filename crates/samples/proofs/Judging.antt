@@ -192,3 +192,11 @@ accepted-within top pixels count k (x ∷ xs) e zero =
     within-by top (2 * k) x count (samplesSay (Codes top false) (accepted pixels) (k + 1) xs) (ltb top x) refl e .0
 accepted-within top pixels count k (x ∷ xs) e (suc i) =
     accepted-within top pixels count (k + 1) xs (within-by top (2 * k) x count (samplesSay (Codes top false) (accepted pixels) (k + 1) xs) (ltb top x) refl e .1) i
+
+-- What is accepted is what would be without a look at the samples.
+pub accepted-count :
+    (top pixels count k : ℕ) (xs : List ℕ) → samplesSay (Codes top false) (accepted pixels) k xs ≡ accepted count → pixels ≡ count
+unfolding samplesSay fault
+accepted-count top pixels count k [] e = cc
+accepted-count top pixels count k (x ∷ xs) e =
+    accepted-count top pixels count (k + 1) xs (within-by top (2 * k) x count (samplesSay (Codes top false) (accepted pixels) (k + 1) xs) (ltb top x) refl e .1)

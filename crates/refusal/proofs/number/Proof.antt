@@ -57,10 +57,18 @@ returns-16 c = sym (ap numberOf (c .enum-told16 .given .1))
 returns-17 : tie.Need-returns-17
 returns-17 c = sym (ap numberOf (c .enum-told17 .given .1))
 
+returns-18 : tie.Need-returns-18
+returns-18 c = sym (ap numberOf (c .enum-told18 .given .1))
+
+returns-19 : tie.Need-returns-19
+returns-19 c = sym (ap numberOf (c .enum-told19 .given .1))
+
 pub number-spec : {M : Type 1} → statement M
 number-spec =
     tie.close
     (tie.spec
+    (λ c. search needs)
+    (λ c. search needs)
     (λ c. search needs)
     (λ c. search needs)
     (λ c. search needs)
@@ -94,4 +102,6 @@ number-spec =
     returns-14
     returns-15
     returns-16
-    returns-17)
+    returns-17
+    returns-18
+    returns-19)

@@ -1,0 +1,6 @@
+pub mod InOrder
+pub mod Nearest
+pub mod Blocks
+pub mod Best
+pub mod Requests
+pub mod Answers

@@ -1,0 +1,121 @@
+-- The nearest tint is at the least distance, no four tints are nearer than all, and sums pixel by pixel.
+-- Assumes nothing.
+use Prim.Native.Nat.{ℕ, zero, suc, _+_, _-_, _*_, _≤_, _<_, min}
+use mathlib.Core.Path.{_≡_, refl, sym, ap, _∙_}
+use mathlib.Core.Bool.{Bool, true, false, cond}
+use mathlib.Core.List.{List, [], _∷_}
+use mathlib.Core.Logic.{⊎-elim}
+use native.Mathlib.Nat.{le-refl, le-trans, eq-or-lt-of-le}
+use native.Mathlib.Numerals.{add-one}
+use native.Mathlib.Omega.{arith}
+use borrow.Author.Tests.{lt-ltb, le-ltb, ltb-true, ltb-false}
+use lib.Dec.{ltb}
+use lib.ListN.{length, getD, drop, drop-of-length-le}
+use lib.Seq.{drop-cons}
+use Rattle.samples.specs.declared.Pixel.{Pixel}
+use Rattle.samples.specs.Samples.{noPixel, pixelsOf}
+use Rattle.esrgb.specs.Depths.{greatest}
+use Rattle.stickers.specs.declared.Four.{Four}
+use Rattle.stickers.specs.Distances.{apart, away, winner, nearest, leastOf, summed}
+use Rattle.stickers.specs.Choices.{tintCount, upward, from, others, tintOf, leastOfFour, sumOf, leastOfAll, sumOfAll}
+use Rattle.stickers.specs.Promise.{Ascending}
+use Rattle.stickers.specs.HowSummed.{AllCodes, CodePixel}
+
+module _ (tints : List ℕ) (p : Pixel) where
+  -- ---- two tints
+  pub winner-later : (x y : ℕ) → away tints p y < away tints p x → y ≡ winner tints p x y
+  unfolding winner
+  winner-later x y h = rw (lt-ltb (away tints p y) (away tints p x) h) refl
+
+  pub winner-earlier : (x y : ℕ) → away tints p x ≤ away tints p y → x ≡ winner tints p x y
+  unfolding winner
+  winner-earlier x y h = rw (le-ltb (away tints p y) (away tints p x) h) refl
+
+  winner-by : (x y : ℕ) (b : Bool) → ltb (away tints p y) (away tints p x) ≡ b → away tints p (cond b y x) ≡ min (away tints p x) (away tints p y)
+  winner-by x y true e = omega (arith, ltb-true (away tints p y) (away tints p x) e)
+  winner-by x y false e = omega (arith, ltb-false (away tints p y) (away tints p x) e)
+
+  winner-least : (x y : ℕ) → away tints p (winner tints p x y) ≡ min (away tints p x) (away tints p y)
+  unfolding winner
+  winner-least x y = winner-by x y _ refl
+
+  -- ---- a set of tints
+  pub nearest-least : (x : ℕ) (ys : List ℕ) → away tints p (nearest tints p x ys) ≡ leastOf tints p (away tints p x) ys
+  unfolding nearest leastOf
+  nearest-least x [] = refl
+  nearest-least x (y ∷ ys) = nearest-least (winner tints p x y) ys ∙ ap (λ m. leastOf tints p m ys) (winner-least x y)
+
+  least-first : (m : ℕ) (ys : List ℕ) → leastOf tints p m ys ≤ m
+  unfolding leastOf
+  least-first m [] = le-refl m
+  least-first m (y ∷ ys) = le-trans (least-first (min m (away tints p y)) ys) (omega arith)
+
+  least-upward : (count m n t : ℕ) → n ≤ t → t < n + count → leastOf tints p m (upward count n) ≤ away tints p t
+  unfolding leastOf upward
+  least-upward zero m n t h l = absurd (omega arith)
+  least-upward (suc count) m n t h l =
+      ⊎-elim
+      (λ e. rw (← e) (le-trans (least-first (min m (away tints p n)) (upward count (n + 1))) (omega arith)))
+      (λ k. least-upward count (min m (away tints p n)) (n + 1) t (omega arith) (omega arith))
+      (eq-or-lt-of-le h)
+
+  -- No tint is nearer than the least of all.
+  least-of-all : (t : ℕ) → t < tintCount → leastOfAll tints p ≤ away tints p t
+  least-of-all zero h = least-first (away tints p 0) (from 1)
+  least-of-all (suc t) h = least-upward 15 (away tints p 0) 1 (suc t) (omega arith) (omega arith)
+
+  four-above : (f : Four) → Ascending f → leastOfAll tints p ≤ leastOfFour tints f p
+  unfolding leastOf
+  four-above f h =
+      let a = least-of-all (f .first) (omega arith) in
+      let b = least-of-all (f .second) (omega arith) in
+      let c = least-of-all (f .third) (omega arith) in
+      let d = least-of-all (f .fourth) (omega arith) in
+      omega arith
+
+  -- ---- all tints, one after another
+  pub least-starts : leastOf tints p (away tints p 0) (from 0) ≡ leastOfAll tints p
+  unfolding leastOf upward
+  least-starts = ap (λ m. leastOf tints p m (from 1)) (omega arith)
+
+  pub least-more : (m t : ℕ) → t < tintCount → leastOf tints p m (from t) ≡ leastOf tints p (min m (away tints p t)) (from (t + 1))
+  unfolding leastOf upward
+  least-more m t h =
+      let e : tintCount - t ≡ suc (tintCount - (t + 1)) = omega arith in
+      rw e refl
+
+  pub least-ends : (m t : ℕ) → tintCount ≤ t → leastOf tints p m (from t) ≡ m
+  unfolding leastOf upward
+  least-ends m t h =
+      let e : tintCount - t ≡ 0 = omega arith in
+      rw e refl
+
+-- ---- sums
+pub summed-more :
+    (f : Pixel → ℕ) (ps : List Pixel) (i : ℕ) → i < length ps → summed f (drop i ps) ≡ f (getD ps i noPixel) + summed f (drop (i + 1) ps)
+unfolding summed
+summed-more f ps i h = rw (drop-cons ps i noPixel h, add-one) refl
+
+pub summed-ends : (f : Pixel → ℕ) (ps : List Pixel) (i : ℕ) → length ps ≤ i → summed f (drop i ps) ≡ 0
+unfolding summed
+summed-ends f ps i h = rw (drop-of-length-le ps {i = i} h) refl
+
+-- No four tints have a sum below that with all.
+pub sum-above : (tints : List ℕ) (f : Four) → Ascending f → (ps : List Pixel) → sumOfAll tints ps ≤ sumOf tints ps f
+unfolding summed
+sum-above tints f h [] = omega arith
+sum-above tints f h (p ∷ ps) = omega (arith, four-above tints p f h, sum-above tints f h ps)
+
+-- ---- codes of 12 bits
+pub pixel-codes : (xs : List ℕ) → AllCodes xs → (i : ℕ) → CodePixel (getD (pixelsOf xs) i noPixel)
+pixel-codes [] h i = omega arith
+pixel-codes (a ∷ []) h i = omega arith
+pixel-codes (a ∷ b ∷ []) h i = omega arith
+pixel-codes (a ∷ b ∷ c ∷ rest) h zero = (h 0, h 1, h 2)
+pixel-codes (a ∷ b ∷ c ∷ rest) h (suc i) = pixel-codes rest (λ k. h (suc (suc (suc k)))) i
+
+pub apart-small : (x y : ℕ) → x ≤ greatest 12 → y ≤ greatest 12 → apart x y ≤ greatest 12
+apart-small x y h l = omega arith
+
+pub three-is : (a b c x y z : ℕ) → a ≡ x → b ≡ y → c ≡ z → a + b + c ≡ x + y + z
+three-is a b c x y z e f g = omega arith

@@ -1,0 +1,29 @@
+-- `stickers::tint_of` meets its contract: of the four, one after another.
+-- Assumes nothing.
+use mathlib.Core.Path.{ap, _∙_}
+use denote.Ref.{now}
+use Rattle.stickers.specs.Distances.{winner, nearest}
+use borrow.Author.Needs.{needs}
+use Rattle.stickers.proofs.tint_of.Statement.{statement}
+use Rattle.stickers.proofs.tint_of.Tie as tie
+
+winner-of-requires : tie.Need-winner-of-requires
+winner-of-requires c κs = search needs
+
+winner-of-requires-2 : tie.Need-winner-of-requires-2
+winner-of-requires-2 c κs = search needs
+
+winner-of-requires-3 : tie.Need-winner-of-requires-3
+winner-of-requires-3 c κs = search needs
+
+returns : tie.Need-returns
+unfolding nearest
+returns c =
+    let s = c .before .before .before in
+    let wins = winner (now (s .args .tints)) (s .args .pixel) in
+    c .winner-of3 .ensures .0
+    ∙ ap (λ x. wins x (s .args .choice .fourth)) (c .before .winner-of2 .ensures .0 ∙ ap (λ x. wins x (s .args .choice .third)) (c .before .before .winner-of .ensures .0))
+
+pub tint-of-spec : {M : Type 1} → statement M
+tint-of-spec =
+    tie.close (tie.spec winner-of-requires winner-of-requires-2 winner-of-requires-3 returns)

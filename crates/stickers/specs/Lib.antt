@@ -1,0 +1,5 @@
+pub mod Distances
+pub mod Choices
+pub mod Stickers
+pub mod Promise
+pub mod HowSummed

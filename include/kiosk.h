@@ -1,5 +1,5 @@
 /*
- * kiosk.h: colour pictures, tints and spool files for photo kiosks, from the proved library.
+ * kiosk.h: colour pictures, tints, stickers and spool files for photo kiosks, from the proved library.
  *
  * Link with libkiosk.a, which `rt staticlib kiosk` writes to target/staticlib/. x86-64 Linux only.
  * Rules are cited by their numbers in docs/RULES.md.
@@ -14,14 +14,15 @@
  * refused with 11. A buffer of length 0 is neither read nor written.
  *
  * `place` and `places` are written by the refusals that have a place, and otherwise keep what they
- * held. `clipped` is written where a conversion to sRGB is accepted, and otherwise keeps what it held.
+ * held. `clipped` is written where a conversion to sRGB is accepted, and `four` and `sums` where stickers
+ * are; otherwise they keep what they held.
  *
  * What no function can check, and each relies on:
  * - No pointer is null, not even that of an empty buffer. Each points to as much as its length or
  *   its type says, aligned as C asks.
  * - What a call writes overlaps nothing else that it is given. It writes destinations, and what
- *   place, clipped, again, again_place, answers, places, pixel, shop, table, next, record and text
- *   point to.
+ *   place, clipped, again, again_place, answers, places, pixel, four, sums, shop, table, next, record
+ *   and text point to.
  * - A buffer is shorter than 2^63 bytes.
  * - During a call nobody else writes what the call is given, or reads what it writes.
  *
@@ -52,12 +53,15 @@ enum kiosk_refusal {
     KIOSK_DEPTH_NOT_OFFERED = 9,         /* a depth that is not offered */
     KIOSK_NOT_WHOLE_SAMPLES = 10,        /* the source is not whole samples: an odd number of bytes */
     KIOSK_WRONG_DESTINATION_LENGTH = 11, /* the destination has not exactly the length needed */
-    KIOSK_SAMPLE_TOO_GREAT = 12,         /* a sample above the greatest of its depth; place: its byte offset */
+    KIOSK_SAMPLE_TOO_GREAT = 12,         /* a sample above the greatest of its depth; place: its byte offset, and
+                                            for a code of the 16 tints see kiosk_stickers */
     KIOSK_CHROMA_ZERO = 13,              /* a chroma of code 0; place: its byte offset */
     KIOSK_TOTAL_TOO_LONG = 14,           /* a spool longer than 4,294,967,295 bytes */
     KIOSK_INPUT_TOO_LONG = 15,           /* a file too long for the listing: only its text says so */
     KIOSK_NOT_WHOLE_PIXELS = 16,         /* the source is whole samples, and not whole pixels */
-    KIOSK_NOT_FINITE = 17                /* a tint's channel that is infinite or not a number; place: its number, 0 to 2 */
+    KIOSK_NOT_FINITE = 17,               /* a tint's channel that is infinite or not a number; place: its number, 0 to 2 */
+    KIOSK_NO_BUDGET = 18,                /* a budget of 0: no choice may be looked at */
+    KIOSK_TOO_MANY_PIXELS = 19           /* a picture of more than 65,536 pixels for stickers */
 };
 
 /* What a frame's pixels are (rule 7.3). */
@@ -167,6 +171,24 @@ int64_t kiosk_tint_nonlinear(double red, double green, double blue, uint16_t pix
 
 /* A tint of linear light: 1 is reference white. */
 int64_t kiosk_tint_light(double red, double green, double blue, uint16_t pixel[3], size_t *place);
+
+/* ---- Stickers (rule 13): four tints out of 16 for a picture of 12-bit e-sRGB, and the one of the four that each
+ * pixel gets. A pixel's distance to a tint is the sum of the three absolute differences of codes. It gets the nearest
+ * tint, of those as near the one with the lowest number. ---- */
+
+/* The codes of 16 tints: red, green and blue of tint 0, then of tint 1, and so on. Tints may be equal. */
+#define KIOSK_TINT_CODES 48
+
+/* Chooses the four tints by which the distances of all pixels have the smallest sum. The 1,820 choices of four
+ * numbers are looked at in lexicographic order, from 0, 1, 2, 3 to 12, 13, 14, 15, but no more than `budget` of
+ * them; of those with the smallest sum the first is chosen. Gives how many were looked at. dst, one byte for each
+ * pixel, gets the number of its tint, 0 to 15; four gets the numbers chosen, ascending; sums[0] gets their sum, and
+ * sums[1] the sum with all 16 tints. No choice has a smaller sum than that, so that none is better than the one
+ * chosen by more than sums[0] - sums[1]. An empty picture gets 0, 1, 2, 3, and sums of 0.
+ * Refuses with 10, 16 or 11, with 12 for a sample of the picture, with 12 for a code of the tints above 4,095, whose
+ * place is src_len plus its number from 0 to 47, with 18 or 19, in this order. */
+int64_t kiosk_stickers(const uint8_t *src, size_t src_len, const uint16_t tints[KIOSK_TINT_CODES], size_t budget,
+                       uint8_t *dst, size_t dst_len, uint8_t four[4], uint32_t sums[2], size_t *place);
 
 /* ---- Spool files (rule 7) ---- */
 

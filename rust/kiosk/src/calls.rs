@@ -3,10 +3,10 @@
 
 #![allow(unsafe_code)]
 
-use crate::{Conversion, Record};
+use crate::{Conversion, Record, TINT_CODES};
 
 mod c {
-    use crate::Record;
+    use crate::{Record, TINT_CODES};
 
     /// A conversion that names one depth.
     pub type Convert =
@@ -121,6 +121,17 @@ mod c {
             dst_len: usize,
         ) -> i64;
         pub fn kiosk_tint_code(red: u8, green: u8, blue: u8, pixel: *mut [u16; 3]);
+        pub fn kiosk_stickers(
+            src: *const u8,
+            src_len: usize,
+            tints: *const [u16; TINT_CODES],
+            budget: usize,
+            dst: *mut u8,
+            dst_len: usize,
+            four: *mut [u8; 4],
+            sums: *mut [u32; 2],
+            place: *mut usize,
+        ) -> i64;
         pub fn kiosk_open(file: *const u8, file_len: usize, shop: *mut u16, table: *mut u32)
             -> i64;
         pub fn kiosk_find(
@@ -162,7 +173,7 @@ pub struct Given {
     pub clipped: usize,
 }
 
-/// No place is this great: a slice has fewer bytes.
+/// No place is this great: a slice has half as many bytes at most.
 const UNWRITTEN: usize = usize::MAX;
 
 fn given(answer: i64, place: usize) -> Given {
@@ -304,6 +315,22 @@ pub fn tint_nonlinear(channels: [f64; 3], pixel: &mut [u16; 3]) -> Given {
 
 pub fn tint_light(channels: [f64; 3], pixel: &mut [u16; 3]) -> Given {
     tint(c::kiosk_tint_light, channels, pixel)
+}
+
+/// What a call of stickers gives, the numbers of the four tints, and the two sums.
+pub fn stickers(
+    picture: &[u8],
+    tints: &[u16; TINT_CODES],
+    budget: usize,
+    dst: &mut [u8],
+) -> (Given, [u8; 4], [u32; 2]) {
+    let (s, n, d, m) = (picture.as_ptr(), picture.len(), dst.as_mut_ptr(), dst.len());
+    let (mut four, mut sums) = ([0; 4], [0; 2]);
+    // SAFETY: the pointers and lengths are those of two slices that do not overlap, of an array, and of locals.
+    let given = placed(|place| unsafe {
+        c::kiosk_stickers(s, n, tints, budget, d, m, &mut four, &mut sums, place)
+    });
+    (given, four, sums)
 }
 
 /// The frame count or a refusal, the shop and the table offset.

@@ -1,4 +1,4 @@
-//! Colour pictures, tints and spool files for photo kiosks: a safe wrapper of the proved library. Buffers
+//! Colour pictures, tints, stickers and spool files for photo kiosks: a safe wrapper of the proved library. Buffers
 //! are slices, an answer is a `Result`, and a refused conversion leaves its destination as it was. Numbers
 //! of rules are those of docs/RULES.md.
 
@@ -158,6 +158,44 @@ pub fn tint_to_pixel(tint: Tint) -> Result<[u16; 3], Refusal> {
         }
     }
     Ok(pixel)
+}
+
+/// How many codes the 16 tints have that stickers are chosen from: three each.
+pub const TINT_CODES: usize = 48;
+
+/// How many choices of four tints out of 16 there are.
+pub const CHOICES: usize = 1_820;
+
+/// What accepted stickers are.
+#[derive(Clone, Copy, Debug, PartialEq, Eq)]
+pub struct Stickers {
+    /// The numbers of the four tints chosen, ascending.
+    pub tints: [u8; 4],
+    /// The sum of all pixels' distances to the nearest of the four.
+    pub sum: u32,
+    /// How many choices were looked at: [`CHOICES`], or the budget if that is less.
+    pub looked: usize,
+    /// The sum with all 16 tints. No choice has a smaller one, so that none is better by more than `sum - least`.
+    pub least: u32,
+}
+
+/// Chooses four of 16 tints for a picture of 12-bit e-sRGB, and writes the number of each pixel's tint to `dst`, one
+/// byte a pixel (rule 13). `tints` are red, green and blue of tint 0, then of tint 1, and so on. No more than `budget`
+/// of the [`CHOICES`] are looked at, in lexicographic order, and the first with the smallest sum is chosen.
+pub fn stickers(
+    picture: &[u8],
+    tints: &[u16; TINT_CODES],
+    budget: usize,
+    dst: &mut [u8],
+) -> Result<Stickers, Refusal> {
+    let (given, four, [sum, least]) = calls::stickers(picture, tints, budget, dst);
+    let looked = counted(given)?;
+    Ok(Stickers {
+        tints: four,
+        sum,
+        looked,
+        least,
+    })
 }
 
 /// A frame's record, with the layout that it has in a spool file.

@@ -23,11 +23,13 @@ pub enum Fault {
     InputTooLong,
     NotWholePixels,
     NotFinite,
+    NoBudget,
+    TooManyPixels,
 }
 
 impl Fault {
     /// All faults, each at its number less one.
-    pub const ALL: [Fault; 17] = [
+    pub const ALL: [Fault; 19] = [
         Fault::TooShort,
         Fault::WrongFileLength,
         Fault::TooManyFrames,
@@ -45,6 +47,8 @@ impl Fault {
         Fault::InputTooLong,
         Fault::NotWholePixels,
         Fault::NotFinite,
+        Fault::NoBudget,
+        Fault::TooManyPixels,
     ];
 
     /// The number of the refusal.
@@ -76,6 +80,8 @@ impl Fault {
             Fault::InputTooLong => "a listing takes at most 65,536 bytes",
             Fault::NotWholePixels => "the source is not whole pixels: three samples make one",
             Fault::NotFinite => "a channel of the tint is infinite or not a number",
+            Fault::NoBudget => "a budget of 0 lets no choice be looked at",
+            Fault::TooManyPixels => "a picture for stickers has at most 65,536 pixels",
         }
     }
 }
@@ -84,10 +90,23 @@ impl Fault {
 #[derive(Clone, Copy, Debug, PartialEq, Eq)]
 pub struct Refusal {
     pub fault: Fault,
-    /// The byte offset of a sample, the number of a record in its list, or that of a tint's channel.
+    /// The byte offset of a sample, the number of a record in its list, or that of a tint's channel. For a code of the
+    /// 16 tints of [`crate::stickers`] it is the picture's length plus the code's number, 0 to 47.
     pub place: Option<usize>,
 }
 
+impl Refusal {
+    /// The number, 0 to 47, of the tints' code at fault, if that is why [`crate::stickers`] refused this picture.
+    pub fn tint_code(&self, picture: &[u8]) -> Option<usize> {
+        match self.fault {
+            Fault::SampleTooGreat => self.place?.checked_sub(picture.len()),
+            _ => None,
+        }
+    }
+}
+
+/// The refusal in words. A code of the 16 tints is shown as a byte behind the picture: how long the picture is, and so
+/// which code it is, only the caller knows, by [`Refusal::tint_code`].
 impl fmt::Display for Refusal {
     fn fmt(&self, f: &mut fmt::Formatter<'_>) -> fmt::Result {
         write!(f, "refusal {}: {}", self.fault.number(), self.fault.words())?;
@@ -153,5 +172,22 @@ mod tests {
             words(Fault::NotFinite, Some(1)),
             "refusal 17: a channel of the tint is infinite or not a number (channel 1, green)"
         );
+        assert_eq!(
+            words(Fault::NoBudget, None),
+            "refusal 18: a budget of 0 lets no choice be looked at"
+        );
+        assert_eq!(
+            words(Fault::TooManyPixels, None),
+            "refusal 19: a picture for stickers has at most 65,536 pixels"
+        );
+    }
+
+    #[test]
+    fn codes_of_tints_lie_behind_the_picture() {
+        let code = |fault, place| Refusal { fault, place }.tint_code(&[0; 12]);
+        assert_eq!(code(Fault::SampleTooGreat, Some(10)), None);
+        assert_eq!(code(Fault::SampleTooGreat, Some(12)), Some(0));
+        assert_eq!(code(Fault::SampleTooGreat, Some(59)), Some(47));
+        assert_eq!(code(Fault::NoBudget, None), None);
     }
 }

@@ -9,6 +9,7 @@ pub mod buffers;
 pub mod light;
 pub mod samples;
 pub mod spool;
+pub mod stickers;
 pub mod tints;
 pub mod ycc;
 

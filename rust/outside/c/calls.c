@@ -407,6 +407,154 @@ static void tints(void)
     CHECK(refuses_at(2, -0.0, DBL_MAX, (double)INFINITY) && refuses_at(2, 1.0, 1.0, (double)NAN));
 }
 
+/* What a call of stickers may write, each between bytes or numbers that nobody may touch. */
+struct sticker_room {
+    uint8_t dst[1 + 600 + 1], four[1 + 4 + 1];
+    uint32_t sums[1 + 2 + 1];
+    size_t place[1 + 1 + 1];
+};
+
+static void fill_room(struct sticker_room *room)
+{
+    memset(room, 0x5a, sizeof *room);
+}
+
+static int64_t stickers_in(struct sticker_room *room, const uint8_t *src, size_t src_len, const uint16_t *tints,
+                           size_t budget, size_t dst_len)
+{
+    return kiosk_stickers(src, src_len, tints, budget, room->dst + 1, dst_len, room->four + 1, room->sums + 1,
+                          room->place + 1);
+}
+
+/* Are the four tints, their sum and that with all tints these, and is everything around what was written, and the
+ * place, as it was? */
+static int sticks(const struct sticker_room *room, size_t pixels, const uint8_t four[4], uint32_t sum, uint32_t all)
+{
+    struct sticker_room like;
+
+    fill_room(&like);
+    memcpy(like.dst + 1, room->dst + 1, pixels);
+    memcpy(like.four + 1, four, 4);
+    like.sums[1] = sum;
+    like.sums[2] = all;
+    return memcmp(room->dst, like.dst, sizeof like.dst) == 0 && memcmp(room->four, like.four, sizeof like.four) == 0
+           && memcmp(room->sums, like.sums, sizeof like.sums) == 0
+           && memcmp(room->place, like.place, sizeof like.place) == 0;
+}
+
+/* White tints, but for two: tint 5 is (10, 0, 0), and tint 9 is (0, 20, 0). */
+static void put_tints(uint16_t tints[KIOSK_TINT_CODES])
+{
+    for (size_t k = 0; k < KIOSK_TINT_CODES; k++)
+        tints[k] = 4095;
+    memset(tints + 3 * 5, 0, 3 * sizeof *tints);
+    memset(tints + 3 * 9, 0, 3 * sizeof *tints);
+    tints[3 * 5] = 10;
+    tints[3 * 9 + 1] = 20;
+}
+
+/* The pixels (10, 0, 0), (0, 20, 0) and black. With tints 5 and 9 their distances are 0, 0 and 10; with 5 alone 0, 30
+ * and 10; and with white 12,275, 12,265 and 12,285. The 40th choice is the first with both. */
+static void stickers(void)
+{
+    static const uint8_t first[4] = {0, 1, 2, 3}, third[4] = {0, 1, 2, 5}, best[4] = {0, 1, 5, 9};
+    uint16_t tints[KIOSK_TINT_CODES];
+    uint8_t src[18] = {0};
+    struct sticker_room room;
+
+    put_tints(tints);
+    put_code(src, 0, 10);
+    put_code(src, 4, 20);
+    fill_room(&room);
+    CHECK(stickers_in(&room, src, sizeof src, tints, 1, 3) == 1);
+    CHECK(sticks(&room, 3, first, 36825, 10) && room.dst[1] == 0 && room.dst[2] == 0 && room.dst[3] == 0);
+    fill_room(&room);
+    CHECK(stickers_in(&room, src, sizeof src, tints, 39, 3) == 39);
+    CHECK(sticks(&room, 3, third, 40, 10) && room.dst[1] == 5 && room.dst[2] == 5 && room.dst[3] == 5);
+    for (size_t budget = 40; budget < 2000; budget += 89) {
+        fill_room(&room);
+        CHECK(stickers_in(&room, src, sizeof src, tints, budget, 3) == (int64_t)(budget < 1820 ? budget : 1820));
+        CHECK(sticks(&room, 3, best, 10, 10) && room.dst[1] == 5 && room.dst[2] == 9 && room.dst[3] == 5);
+    }
+    fill_room(&room);
+    CHECK(stickers_in(&room, src, sizeof src, tints, SIZE_MAX, 3) == 1820);
+    CHECK(sticks(&room, 3, best, 10, 10));
+    fill_room(&room);
+    CHECK(stickers_in(&room, src, 0, tints, 7, 0) == 7);
+    CHECK(sticks(&room, 0, first, 0, 0));
+}
+
+/* More pixels than the library takes at a time, all black: to tints 5 and 9 they have distances of 10 and 20. */
+static void stickers_of_many_pixels(void)
+{
+    static const uint8_t four[4] = {0, 1, 2, 5};
+    static const size_t counts[6] = {1, 255, 256, 257, 513, 600};
+    static uint8_t src[6 * 600];
+    uint16_t tints[KIOSK_TINT_CODES];
+    struct sticker_room room;
+
+    put_tints(tints);
+    for (size_t k = 0; k < 6; k++) {
+        uint32_t sum = (uint32_t)(10 * counts[k]);
+
+        fill_room(&room);
+        CHECK(stickers_in(&room, src, 6 * counts[k], tints, 1820, counts[k]) == 1820);
+        CHECK(sticks(&room, counts[k], four, sum, sum));
+        for (size_t p = 0; p < counts[k]; p++)
+            CHECK(room.dst[1 + p] == 5);
+    }
+}
+
+/* Are stickers refused with this number at this place, where there is one, and is all else as it was? */
+static int stickers_refused_with(int number, size_t at, const uint8_t *src, size_t src_len, const uint16_t *tints,
+                                 size_t budget, size_t dst_len)
+{
+    struct sticker_room room, like;
+
+    fill_room(&room);
+    fill_room(&like);
+    if (at != SIZE_MAX)
+        like.place[1] = at;
+    return stickers_in(&room, src, src_len, tints, budget, dst_len) == -number
+           && memcmp(&room, &like, sizeof like) == 0;
+}
+
+/* Each refusal in a call that deserves those behind it too. */
+static void stickers_refused(void)
+{
+    static uint8_t many[6 * 65537], dst[65537];
+    const size_t none = SIZE_MAX;
+    uint16_t tints[KIOSK_TINT_CODES];
+    uint8_t src[12] = {0}, four[4] = {1, 1, 1, 1};
+    uint32_t sums[2] = {1, 1};
+    size_t place = 77;
+
+    put_tints(tints);
+    tints[47] = 4096;
+    put_code(src, 5, 4096);
+    CHECK(stickers_refused_with(KIOSK_NOT_WHOLE_SAMPLES, none, src, 11, tints, 0, 7));
+    CHECK(stickers_refused_with(KIOSK_NOT_WHOLE_PIXELS, none, src, 10, tints, 0, 7));
+    CHECK(stickers_refused_with(KIOSK_WRONG_DESTINATION_LENGTH, none, src, 12, tints, 0, 1));
+    CHECK(stickers_refused_with(KIOSK_WRONG_DESTINATION_LENGTH, none, src, 12, tints, 0, 3));
+    CHECK(stickers_refused_with(KIOSK_WRONG_DESTINATION_LENGTH, none, src, 0, tints, 0, 1));
+    CHECK(stickers_refused_with(KIOSK_SAMPLE_TOO_GREAT, 10, src, 12, tints, 0, 2));
+    put_code(src, 5, 4095);
+    CHECK(stickers_refused_with(KIOSK_SAMPLE_TOO_GREAT, 12 + 47, src, 12, tints, 0, 2));
+    tints[4] = 65535;
+    CHECK(stickers_refused_with(KIOSK_SAMPLE_TOO_GREAT, 12 + 4, src, 12, tints, 1820, 2));
+    CHECK(stickers_refused_with(KIOSK_SAMPLE_TOO_GREAT, 4, src, 0, tints, 0, 0));
+    put_tints(tints);
+    CHECK(stickers_refused_with(KIOSK_NO_BUDGET, none, src, 12, tints, 0, 2));
+    CHECK(stickers_refused_with(KIOSK_NO_BUDGET, none, src, 0, tints, 0, 0));
+    CHECK(kiosk_stickers(many, sizeof many, tints, 0, dst, sizeof dst, four, sums, &place) == -KIOSK_NO_BUDGET);
+    memset(dst, 99, sizeof dst);
+    CHECK(kiosk_stickers(many, sizeof many, tints, 1, dst, sizeof dst, four, sums, &place) == -KIOSK_TOO_MANY_PIXELS);
+    CHECK(dst[0] == 99 && memcmp(dst, dst + 1, sizeof dst - 1) == 0);
+    CHECK(four[0] == 1 && four[3] == 1 && sums[0] == 1 && sums[1] == 1 && place == 77);
+    CHECK(kiosk_stickers(many, sizeof many - 6, tints, 3, dst, sizeof dst - 1, four, sums, &place) == 3);
+    CHECK(dst[0] == 5 && dst[65535] == 5 && four[3] == 5 && sums[0] == 655360 && sums[1] == 655360 && place == 77);
+}
+
 static void spools(void)
 {
     struct kiosk_record records[2] = {
@@ -527,6 +675,9 @@ int main(void)
     light();
     light_at_sixteen();
     tints();
+    stickers();
+    stickers_of_many_pixels();
+    stickers_refused();
     spools();
     spools_of_standard_ycc();
     listings();

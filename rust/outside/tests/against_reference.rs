@@ -11,7 +11,7 @@ use std::time::Instant;
 /// A part of the tests: what it compares, and the function that gives how many.
 type Part = (&'static str, fn() -> u64);
 
-const PARTS: [Part; 24] = [
+const PARTS: [Part; 30] = [
     (
         "samples: every code of every depth",
         parts::pictures::every_sample,
@@ -92,6 +92,30 @@ const PARTS: [Part; 24] = [
     (
         "tints: any bits, and doubles near the codes",
         parts::tints::any_bits,
+    ),
+    (
+        "stickers of few pixels, with ties, equal tints and every kind of budget",
+        parts::stickers::small,
+    ),
+    (
+        "stickers of blocks of pixels and one more or less",
+        parts::stickers::blocks,
+    ),
+    (
+        "stickers of 65,536 pixels, and of more",
+        parts::stickers::largest,
+    ),
+    (
+        "calls of stickers: every length from 0 to 40 bytes",
+        parts::stickers::every_length,
+    ),
+    (
+        "calls of stickers: each sample and each code of the tints at fault",
+        parts::stickers::every_place,
+    ),
+    (
+        "calls of stickers with several faults",
+        parts::stickers::refusals,
     ),
     (
         "spools laid out, found, walked, listed, damaged and cut",

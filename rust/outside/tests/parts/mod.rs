@@ -2,5 +2,6 @@ pub mod clipped;
 pub mod light;
 pub mod pictures;
 pub mod spools;
+pub mod stickers;
 pub mod tints;
 pub mod ycc;

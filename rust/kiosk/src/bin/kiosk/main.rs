@@ -1,4 +1,5 @@
-//! The kiosk command: lists, checks, converts, compares and previews the frames of a spool file, and converts tints.
+//! The kiosk command: lists, checks, converts, compares and previews the frames of a spool file, chooses stickers for
+//! them, and converts tints.
 
 #![forbid(unsafe_code)]
 
@@ -8,6 +9,7 @@ mod form;
 mod output;
 mod png;
 mod progress;
+mod stickers;
 mod tint;
 
 use form::{Form, Target};
@@ -25,6 +27,8 @@ usage: kiosk list FILE
        kiosk convert FILE FRAME --to FORM --out FILE [--raw]
        kiosk compare FILE FRAME
        kiosk preview FILE FRAME --out FILE.png
+       kiosk stickers FILE FRAME --tints FILE --out FILE [--budget N]
+                      [--preview FILE.png]
        kiosk tint --code R,G,B | --nonlinear R,G,B | --light R,G,B
 
 list      prints a heading and a line for each frame of a spool file, or a line
@@ -47,6 +51,14 @@ compare   takes the frame through luma and chroma and back, one of sRGB or sYCC 
           after
 preview   writes the frame as an 8-bit PNG picture, and says on standard error how
           many pixels sRGB cannot hold, if any
+stickers  chooses four of 16 tints for a frame of at most 65,536 pixels: those from
+          which its codes differ least in sum, if each pixel gets the nearest. It
+          writes one byte for each pixel, the number of its tint from 0 to 15, and
+          with --preview a PNG picture in the four tints. It prints the four
+          numbers, the sum, and by how much another choice can be better. The tints
+          are 48 codes of 12-bit e-sRGB in a text file, three for each, with white
+          space or commas between them; # begins a comment. N is how many of the
+          1820 choices are looked at, if not all
 tint      prints a colour as a pixel of 12-bit e-sRGB: three codes from 0 to 4095.
           Codes of 8-bit sRGB are from 0 to 255. Nonlinear numbers have black at 0
           and white at 1, light has reference white at 1, and both may be any
@@ -93,13 +105,16 @@ fn failed(status: u8, why: &str) -> ExitCode {
 }
 
 /// The options, and whether each has a value.
-const OPTIONS: [(&str, bool); 6] = [
+const OPTIONS: [(&str, bool); 9] = [
     ("--to", true),
     ("--out", true),
     ("--raw", false),
     ("--code", true),
     ("--nonlinear", true),
     ("--light", true),
+    ("--tints", true),
+    ("--budget", true),
+    ("--preview", true),
 ];
 
 /// A command's words, sorted.
@@ -146,6 +161,23 @@ impl<'a> Words<'a> {
         self.wanted("--out").map(Path::new)
     }
 
+    /// What stickers are to be made of, and where they go.
+    fn stickers(&self) -> Result<stickers::Asked<'a>, Failure> {
+        let asked = stickers::Asked {
+            tints: Path::new(self.wanted("--tints")?),
+            budget: match self.options.get("--budget") {
+                Some(word) => number(word, "budget")?,
+                None => kiosk::CHOICES,
+            },
+            out: self.out()?,
+            preview: self.options.get("--preview").copied().map(Path::new),
+        };
+        if asked.preview == Some(asked.out) {
+            return Err(Failure::usage("--out and --preview name the same file"));
+        }
+        Ok(asked)
+    }
+
     fn target(&self) -> Result<Target, Failure> {
         let name = self.wanted("--to")?;
         let target = name.to_str().and_then(Target::named);
@@ -185,28 +217,20 @@ fn run_command(command: &OsStr, words: &Words) -> Result<(), Failure> {
             words.only(&[])?;
             check::run(Path::new(file))
         }
-        (Some("compare"), [file, frame]) => {
-            words.only(&[])?;
-            compare_runs(Path::new(file), number(frame)?)
-        }
-        (Some("preview"), [file, frame]) => {
-            words.only(&["--out"])?;
-            preview(Path::new(file), number(frame)?, words.out()?)
-        }
-        (Some("convert"), [file, frame]) => {
-            words.only(&["--to", "--out", "--raw"])?;
-            let raw = words.options.contains_key("--raw");
-            let (target, out) = (words.target()?, words.out()?);
-            convert(Path::new(file), number(frame)?, target, raw, out)
+        (Some(command @ ("compare" | "preview" | "convert" | "stickers")), [file, frame]) => {
+            run_for_frame(command, Path::new(file), frame, words)
         }
         (Some("tint"), []) => {
             words.only(&tint::OPTIONS)?;
             let (option, value) = words.tint()?;
             tint(option, value)
         }
-        (Some("list" | "check" | "compare" | "preview" | "convert" | "tint"), _) => Err(
-            Failure::usage(format!("{} wants other words", command.display())),
-        ),
+        (Some("list" | "check" | "compare" | "preview" | "convert" | "stickers" | "tint"), _) => {
+            Err(Failure::usage(format!(
+                "{} wants other words",
+                command.display()
+            )))
+        }
         _ => Err(Failure::usage(format!(
             "unknown command {}",
             command.display()
@@ -214,16 +238,39 @@ fn run_command(command: &OsStr, words: &Words) -> Result<(), Failure> {
     }
 }
 
-/// A frame number. One that is too great for the machine is no frame's either.
-fn number(word: &OsStr) -> Result<usize, Failure> {
+/// The commands for one frame.
+fn run_for_frame(command: &str, file: &Path, frame: &OsStr, words: &Words) -> Result<(), Failure> {
+    let frame_number = || number(frame, "frame number");
+    match command {
+        "compare" => {
+            words.only(&[])?;
+            compare_runs(file, frame_number()?)
+        }
+        "preview" => {
+            words.only(&["--out"])?;
+            preview(file, frame_number()?, words.out()?)
+        }
+        "convert" => {
+            words.only(&["--to", "--out", "--raw"])?;
+            let raw = words.options.contains_key("--raw");
+            let (target, out) = (words.target()?, words.out()?);
+            convert(file, frame_number()?, target, raw, out)
+        }
+        _ => {
+            words.only(&["--tints", "--budget", "--out", "--preview"])?;
+            stickers::run(file, frame_number()?, words.stickers()?)
+        }
+    }
+}
+
+/// A whole number, for what is named. One that is too great for the machine is no frame's either, and as a budget it is
+/// more than enough.
+fn number(word: &OsStr, what: &str) -> Result<usize, Failure> {
     match word.to_str() {
         Some(digits) if !digits.is_empty() && digits.bytes().all(|b| b.is_ascii_digit()) => {
             Ok(digits.parse().unwrap_or(usize::MAX))
         }
-        _ => Err(Failure::usage(format!(
-            "{} is no frame number",
-            word.display()
-        ))),
+        _ => Err(Failure::usage(format!("{} is no {what}", word.display()))),
     }
 }
 

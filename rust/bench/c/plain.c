@@ -12,7 +12,9 @@ enum {
     WRONG_ROOM = -11,
     TOO_GREAT = -12,
     CHROMA_ZERO = -13,
-    NOT_WHOLE_PIXELS = -16
+    NOT_WHOLE_PIXELS = -16,
+    NO_BUDGET = -18,
+    TOO_MANY_PIXELS = -19
 };
 
 static int offered(uint32_t depth)
@@ -469,4 +471,198 @@ int64_t plain_tint_light(double red, double green, double blue, uint16_t pixel[3
         pixel[k] = (uint16_t)code_of_light(thresholds12, 2560, 1536, light);
     }
     return 1;
+}
+
+/* ---- Stickers: four tints out of 16 ---- */
+
+enum { TINTS = 16, CHOICES = 1820, MOST_PIXELS = 65536, BLOCK = 256 };
+
+/* The refusals in their order; 0 if there is none. */
+static int64_t check_stickers(const uint8_t *src, size_t src_len, const uint16_t *tints, size_t budget,
+                              size_t dst_len, size_t *place)
+{
+    int64_t fault = check_lengths(1, src_len, 2, dst_len, src_len / 6);
+    if (fault == 0)
+        fault = check_codes(12, src, src_len / 2, place);
+    if (fault < 0)
+        return fault;
+    for (size_t k = 0; k < 3 * TINTS; k++)
+        if (tints[k] > 4095) {
+            *place = src_len + k;
+            return TOO_GREAT;
+        }
+    if (budget == 0)
+        return NO_BUDGET;
+    return dst_len > MOST_PIXELS ? TOO_MANY_PIXELS : 0;
+}
+
+/* The numbers of four tints, ascending. */
+struct choice {
+    uint8_t a, b, c, d;
+};
+
+static const struct choice first_choice = {0, 1, 2, 3};
+
+/* The next choice in lexicographic order, of any but the last. */
+static struct choice next_choice(struct choice k)
+{
+    if (k.d < 15) {
+        k.d++;
+        return k;
+    }
+    if (k.c < 14)
+        k.c++;
+    else {
+        if (k.b < 13)
+            k.b++;
+        else {
+            k.a++;
+            k.b = (uint8_t)(k.a + 1);
+        }
+        k.c = (uint8_t)(k.b + 1);
+    }
+    k.d = (uint8_t)(k.c + 1);
+    return k;
+}
+
+/* How far a pixel is from a tint. */
+static uint16_t distance(const uint8_t *src, size_t pixel, const uint16_t *tints, size_t tint)
+{
+    int32_t sum = 0;
+    for (size_t k = 0; k < 3; k++) {
+        int32_t difference = (int32_t)sample(src, 3 * pixel + k) - tints[3 * tint + k];
+        sum += difference < 0 ? -difference : difference;
+    }
+    return (uint16_t)sum;
+}
+
+static inline uint16_t least(uint16_t x, uint16_t y)
+{
+    return x < y ? x : y;
+}
+
+/* Each pixel's nearest of the four tints, the first of those as near. */
+static void write_nearest(const uint8_t *src, size_t pixels, const uint16_t *tints, const uint8_t four[4],
+                          uint8_t *dst)
+{
+    for (size_t p = 0; p < pixels; p++) {
+        uint16_t shortest = distance(src, p, tints, four[0]);
+        dst[p] = four[0];
+        for (size_t k = 1; k < 4; k++) {
+            uint16_t next = distance(src, p, tints, four[k]);
+            if (next < shortest) {
+                shortest = next;
+                dst[p] = four[k];
+            }
+        }
+    }
+}
+
+/* Puts the first choice with the smallest of these sums, and gives that sum. */
+static uint32_t put_best(const uint32_t *totals, size_t limit, uint8_t four[4])
+{
+    struct choice k = first_choice, best = k;
+    uint32_t smallest = totals[0];
+    for (size_t i = 1; i < limit; i++) {
+        k = next_choice(k);
+        if (totals[i] < smallest) {
+            smallest = totals[i];
+            best = k;
+        }
+    }
+    four[0] = best.a;
+    four[1] = best.b;
+    four[2] = best.c;
+    four[3] = best.d;
+    return smallest;
+}
+
+/* The distances of a block of pixels, in a row for each tint. Gives the sum of those to the nearest tint. */
+static uint32_t fill_rows(const uint8_t *src, size_t count, const uint16_t *tints, uint16_t *rows)
+{
+    uint32_t sum = 0;
+    for (size_t p = 0; p < count; p++) {
+        uint16_t shortest = UINT16_MAX;
+        for (size_t t = 0; t < TINTS; t++) {
+            uint16_t next = distance(src, p, tints, t);
+            rows[BLOCK * t + p] = next;
+            shortest = least(shortest, next);
+        }
+        sum += shortest;
+    }
+    return sum;
+}
+
+/* What a block adds to the sum of a choice. */
+static uint32_t sum_of_rows(const uint16_t *rows, struct choice k, size_t count)
+{
+    const uint16_t *a = rows + BLOCK * k.a, *b = rows + BLOCK * k.b;
+    const uint16_t *c = rows + BLOCK * k.c, *d = rows + BLOCK * k.d;
+    uint32_t sum = 0;
+    for (size_t p = 0; p < count; p++)
+        sum += least(least(least(a[p], b[p]), c[p]), d[p]);
+    return sum;
+}
+
+/* Adds a block to the sums of the first choices. */
+static void add_block(const uint16_t *rows, size_t count, uint32_t *totals, size_t limit)
+{
+    struct choice k = first_choice;
+    for (size_t i = 0; i < limit; i++) {
+        totals[i] += sum_of_rows(rows, k, count);
+        k = next_choice(k);
+    }
+}
+
+int64_t plain_stickers(const uint8_t *src, size_t src_len, const uint16_t tints[48], size_t budget,
+                       uint8_t *dst, size_t dst_len, uint8_t four[4], uint32_t sums[2], size_t *place)
+{
+    int64_t fault = check_stickers(src, src_len, tints, budget, dst_len, place);
+    if (fault < 0)
+        return fault;
+    size_t limit = budget < CHOICES ? budget : CHOICES;
+    uint32_t totals[CHOICES] = {0}, with_all = 0;
+    uint16_t rows[BLOCK * TINTS];
+    for (size_t start = 0; start < dst_len; start += BLOCK) {
+        size_t count = dst_len - start < BLOCK ? dst_len - start : BLOCK;
+        with_all += fill_rows(src + 6 * start, count, tints, rows);
+        add_block(rows, count, totals, limit);
+    }
+    sums[0] = put_best(totals, limit, four);
+    sums[1] = with_all;
+    write_nearest(src, dst_len, tints, four, dst);
+    return (int64_t)limit;
+}
+
+/* Adds a pixel to the sums of the first choices. */
+static void add_pixel(const uint16_t distances[TINTS], uint32_t *totals, size_t limit)
+{
+    struct choice k = first_choice;
+    for (size_t i = 0; i < limit; i++) {
+        totals[i] += least(least(distances[k.a], distances[k.b]), least(distances[k.c], distances[k.d]));
+        k = next_choice(k);
+    }
+}
+
+int64_t obvious_stickers(const uint8_t *src, size_t src_len, const uint16_t tints[48], size_t budget,
+                         uint8_t *dst, size_t dst_len, uint8_t four[4], uint32_t sums[2], size_t *place)
+{
+    int64_t fault = check_stickers(src, src_len, tints, budget, dst_len, place);
+    if (fault < 0)
+        return fault;
+    size_t limit = budget < CHOICES ? budget : CHOICES;
+    uint32_t totals[CHOICES] = {0}, with_all = 0;
+    for (size_t p = 0; p < dst_len; p++) {
+        uint16_t distances[TINTS], shortest = UINT16_MAX;
+        for (size_t t = 0; t < TINTS; t++) {
+            distances[t] = distance(src, p, tints, t);
+            shortest = least(shortest, distances[t]);
+        }
+        with_all += shortest;
+        add_pixel(distances, totals, limit);
+    }
+    sums[0] = put_best(totals, limit, four);
+    sums[1] = with_all;
+    write_nearest(src, dst_len, tints, four, dst);
+    return (int64_t)limit;
 }

@@ -33,6 +33,13 @@ int64_t plain_tint_code(uint8_t red, uint8_t green, uint8_t blue, uint16_t pixel
 int64_t plain_tint_nonlinear(double red, double green, double blue, uint16_t pixel[3], size_t *place);
 int64_t plain_tint_light(double red, double green, double blue, uint16_t pixel[3], size_t *place);
 
+/* Stickers: the answer is the number of choices looked at. The first goes about it as the library does, in blocks of
+ * pixels; the second in the obvious way, pixel by pixel. */
+int64_t plain_stickers(const uint8_t *src, size_t src_len, const uint16_t tints[48], size_t budget,
+                       uint8_t *dst, size_t dst_len, uint8_t four[4], uint32_t sums[2], size_t *place);
+int64_t obvious_stickers(const uint8_t *src, size_t src_len, const uint16_t tints[48], size_t budget,
+                         uint8_t *dst, size_t dst_len, uint8_t four[4], uint32_t sums[2], size_t *place);
+
 /* The light of each 12-bit level from 0 to 2,560, and the least light of each level at 10 bits (640) and 12 (2,560). */
 void plain_set_tables(const uint32_t *light, const uint32_t *ten, const uint32_t *twelve);
 

@@ -3,7 +3,7 @@
 
 #![allow(unsafe_code)]
 
-use kiosk::{Conversion, Tint};
+use kiosk::{Conversion, Tint, TINT_CODES};
 
 /// What a version gives: its answer, and the clipped pixels, which only a conversion to sRGB counts.
 #[derive(Clone, Copy, Debug, PartialEq, Eq)]
@@ -130,6 +130,48 @@ macro_rules! light_by {
 
 light_by!(plain_light: plain_code_to_light);
 light_by!(before_light: before_code_to_light);
+
+/// What a version's stickers give: the answer, the four tints, and the sums with these and with all.
+pub type Chosen = (i64, [u8; 4], [u32; 2]);
+
+/// A version's stickers.
+pub type Stickers = fn(&[u8], &[u16; TINT_CODES], usize, &mut [u8]) -> Chosen;
+
+/// Declares a version's stickers, and makes a function over slices of them.
+macro_rules! stickers_by {
+    ($version:ident: $name:ident) => {
+        extern "C" {
+            fn $name(
+                src: *const u8,
+                src_len: usize,
+                tints: *const [u16; TINT_CODES],
+                budget: usize,
+                dst: *mut u8,
+                dst_len: usize,
+                four: *mut [u8; 4],
+                sums: *mut [u32; 2],
+                place: *mut usize,
+            ) -> i64;
+        }
+
+        pub fn $version(
+            src: &[u8],
+            tints: &[u16; TINT_CODES],
+            budget: usize,
+            dst: &mut [u8],
+        ) -> Chosen {
+            let (mut four, mut sums, mut place) = ([0; 4], [0; 2], 0);
+            let (s, n, d, m) = (src.as_ptr(), src.len(), dst.as_mut_ptr(), dst.len());
+            // SAFETY: the pointers and lengths are those of two slices that do not overlap, of an array, and of locals.
+            let answer =
+                unsafe { $name(s, n, tints, budget, d, m, &mut four, &mut sums, &mut place) };
+            (answer, four, sums)
+        }
+    };
+}
+
+stickers_by!(stickers_in_blocks: plain_stickers);
+stickers_by!(stickers_pixel_by_pixel: obvious_stickers);
 
 extern "C" {
     fn plain_set_tables(light: *const u32, ten: *const u32, twelve: *const u32);

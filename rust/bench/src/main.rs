@@ -1,11 +1,13 @@
 //! Benchmarks: nanoseconds a pixel of each operation, its checks included, beside plain C, C by hand for SSE2, and
 //! memcpy. Run with `cargo run --release -p bench`, and with ` -- 20000` behind it for that size alone.
-//! ` -- before` times the conversions by an earlier library too, whose archive `KIOSK_BEFORE` names.
+//! ` -- before` times the conversions by an earlier library too, whose archive `KIOSK_BEFORE` names, and ` -- stickers`
+//! times stickers alone.
 
 #![deny(unsafe_code)]
 
 mod buffer;
 mod c;
+mod stickers;
 
 use buffer::Buffer;
 use kiosk::{Conversion, Converted, Refusal, Tint};
@@ -22,12 +24,20 @@ const NAME: usize = 23;
 /// A way to compute an operation's result: its answer is the pixel count.
 type Version<'a, T> = &'a dyn Fn(&mut [T]) -> i64;
 
-/// The best of many rounds for each version, in nanoseconds a pixel. A round takes every version, one after the other
-/// and for 200,000 pixels at least, so that all meet the same pace of the machine; of a small picture there are more
-/// rounds, because others disturb a short time more.
+/// The best of many rounds for each version, in nanoseconds a pixel. A round takes 200,000 pixels at least; of a small
+/// picture there are more rounds, because others disturb a short time more.
 fn best<T>(pixels: usize, dst: &mut [T], versions: &[Version<T>]) -> Vec<f64> {
     let rounds = (20_000_000 / pixels).clamp(11, 101);
     let turns = (200_000 / pixels).max(1);
+    best_of(rounds, turns, dst, versions)
+        .iter()
+        .map(|time| time * 1e9 / pixels as f64)
+        .collect()
+}
+
+/// The best of so many rounds for each version, in seconds. A round takes every version, one after the other and for so
+/// many turns, so that all meet the same pace of the machine.
+fn best_of<T>(rounds: usize, turns: usize, dst: &mut [T], versions: &[Version<T>]) -> Vec<f64> {
     let mut times = vec![f64::INFINITY; versions.len()];
     for _ in 0..rounds {
         for (time, version) in times.iter_mut().zip(versions) {
@@ -40,9 +50,6 @@ fn best<T>(pixels: usize, dst: &mut [T], versions: &[Version<T>]) -> Vec<f64> {
         }
     }
     times
-        .iter()
-        .map(|time| time * 1e9 / pixels as f64)
-        .collect()
 }
 
 /// The numbers that all versions write.
@@ -687,10 +694,14 @@ fn main() {
         }));
         return compare_with_before(&operations, &sizes(words, &[1_000_000]));
     }
+    if words.next_if(|word| word == "stickers").is_some() {
+        return stickers::compare();
+    }
     let sizes = sizes(words, &SIZES);
     compare(&operations, &sizes);
     if sizes == SIZES {
         show_growth(&operations);
+        stickers::compare();
     }
 }
 

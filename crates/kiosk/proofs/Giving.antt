@@ -1,7 +1,7 @@
 -- From what an operation says and leaves, and what C is told of its answer, to what C gets.
 -- Assumes nothing.
 use Prim.Native.Nat.{ℕ}
-use mathlib.Core.Path.{_≡_, refl, ap, subst, _∙_}
+use mathlib.Core.Path.{_≡_, refl, sym, ap, subst, _∙_}
 use mathlib.Core.List.{List}
 use lib.IntN.{ℤ, pos}
 use lib.ListN.{length}
@@ -18,7 +18,12 @@ use Rattle.tint.specs.declared.Tint.the-variants.{Code}
 use Rattle.tint.specs.Tints as tint
 use Rattle.tint.specs.Tints.{TintSaid, refusesAt, tintPixel, tintSays}
 use Rattle.tint.proofs.Meaning.{pixel-given, code-given}
-use Rattle.kiosk.specs.Interface.{minus, answerOf, placeOf, Gives, Converts, clipsAfter, answerOfOne, samplesOfOne, Tints}
+use Rattle.stickers.specs.declared.Choice.{Choice}
+use Rattle.stickers.specs.Choices.{choiceOf}
+use Rattle.stickers.specs.Stickers as sticker
+use Rattle.stickers.specs.Stickers.{requestSays, pictureOf, chooses, stickersSays, stickers}
+use Rattle.stickers.proofs.Answers.{accepted-says, refused-says, refused-at-says}
+use Rattle.kiosk.specs.Interface.{minus, answerOf, placeOf, Gives, Converts, clipsAfter, answerOfOne, samplesOfOne, Tints, fourOf, sumsOf}
 
 pub gives : {A : Type 0} (new dst : List A) (place : ℕ) {s says : Said} {r : ℤ} {dst′ : List A} {place′ : ℕ}
     → s ≡ says → dst′ ≡ leaves says new dst → r ≡ answerOf s → place′ ≡ placeOf s place → Gives says new r dst dst′ place place′
@@ -62,3 +67,39 @@ pub tints-code : (red green blue : ℕ) {r : ℤ} {dst dst′ : List ℕ} {place
     → Tints (Code red green blue) r dst dst′ place place′ → dst′ ≡ samplesOfOne (tintPixel (Code red green blue))
 tints-code red green blue {dst = dst} g =
     g .content ∙ ap (λ (s : TintSaid). leaves (answerOfOne s) (samplesOfOne (tintPixel (Code red green blue))) dst) (code-given red green blue)
+
+-- The same of stickers, with the numbers and the sums beside the destination.
+module _ (src tints : List ℕ) (budget : ℕ) (dst : List ℕ) (place : ℕ) (four sums : List ℕ) where
+  abbrev request : Said
+  request = requestSays src tints budget (length dst)
+
+  abbrev choice : Choice
+  choice = choiceOf tints (pictureOf src) budget
+
+  abbrev Sticks : ℤ → List ℕ → ℕ → List ℕ → List ℕ → Type 0
+  Sticks r dst′ place′ four′ sums′ =
+      Gives request (stickers src tints budget) r dst dst′ place place′
+      × ((four′ ≡ leaves request (fourOf choice) four) × (sums′ ≡ leaves request (sumsOf choice) sums))
+
+  sticks : {s : Said} {r : ℤ} {dst′ : List ℕ} {place′ : ℕ}
+      → request ≡ s → dst′ ≡ leaves request (stickers src tints budget) dst → r ≡ answerOf s → place′ ≡ placeOf s place
+      → Sticks r dst′ place′ (leaves s (fourOf choice) four) (leaves s (sumsOf choice) sums)
+  sticks says bytes answer at =
+      (gives _ dst place (sym says) bytes answer at, (ap (λ x. leaves x (fourOf choice) four) (sym says), ap (λ x. leaves x (sumsOf choice) sums) (sym says)))
+
+  pub sticks-given : (given : Choice) {r : ℤ} {dst′ : List ℕ}
+      → chooses given ≡ stickersSays src tints budget (length dst) → dst′ ≡ leaves request (stickers src tints budget) dst → r ≡ pos (given .looked)
+      → Sticks r dst′ place (fourOf given) (sumsOf given)
+  sticks-given given e bytes answer =
+      let told = accepted-says src tints budget (length dst) given e in
+      rw (told .1) (sticks (told .0) bytes answer refl)
+
+  pub sticks-refused : (k : ℕ) {r : ℤ} {dst′ : List ℕ}
+      → sticker.refuses k ≡ stickersSays src tints budget (length dst) → dst′ ≡ leaves request (stickers src tints budget) dst → r ≡ minus k
+      → Sticks r dst′ place four sums
+  sticks-refused k e bytes answer = sticks (refused-says src tints budget (length dst) k e) bytes answer refl
+
+  pub sticks-refused-at : (k at : ℕ) {r : ℤ} {dst′ : List ℕ}
+      → sticker.refusesAt k at ≡ stickersSays src tints budget (length dst) → dst′ ≡ leaves request (stickers src tints budget) dst → r ≡ minus k
+      → Sticks r dst′ at four sums
+  sticks-refused-at k at e bytes answer = sticks (refused-at-says src tints budget (length dst) k at e) bytes answer refl

@@ -16,6 +16,7 @@ use Rattle.picture.specs.declared.Conversion.the-variants.{ToSrgb}
 use Rattle.picture.specs.Convert.{convertSays, converted, clippedIn}
 use Rattle.tint.specs.declared.Tint.{Tint}
 use Rattle.tint.specs.Tints.{TintSaid, gives, refusesAt, tintPixel, tintSays}
+use Rattle.stickers.specs.declared.Choice.{Choice}
 use Rattle.spool.specs.Open.{OpenSaid, opens, refusesFile}
 use Rattle.spool.specs.Find.{FindSaid, finds, refusesFrame}
 
@@ -68,6 +69,13 @@ samplesOfOne p = samplesIn (p ∷ [])
 
 abbrev pub Tints : Tint → ℤ → List ℕ → List ℕ → ℕ → ℕ → Type 0
 Tints t r dst dst′ place place′ = Gives (answerOfOne (tintSays t)) (samplesOfOne (tintPixel t)) r dst dst′ place place′
+
+-- Rule 13.7: the numbers of the four tints chosen, and the sums with them and with all tints.
+abbrev pub fourOf : Choice → List ℕ
+fourOf c = c .four .first ∷ c .four .second ∷ c .four .third ∷ c .four .fourth ∷ []
+
+abbrev pub sumsOf : Choice → List ℕ
+sumsOf c = c .sum ∷ c .least ∷ []
 
 -- Rule 7.5: the frame count is returned, shop and offset of the table are written. Refused, both keep what they held.
 abbrev pub openAnswer : OpenSaid → ℤ

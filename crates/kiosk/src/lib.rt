@@ -23,6 +23,9 @@ use spool::Found;
 use spool::Opened;
 use spool::find;
 use spool::open;
+use stickers::Chosen;
+use stickers::TINT_CODES;
+use stickers::choose;
 use tint::Channels;
 use tint::Tint;
 use tint::Tinted;
@@ -34,13 +37,15 @@ ghost use Rattle.refusal.specs.Refusals.{numberOf};
 ghost use Rattle.refusal.specs.Answers.{said, leaves};
 ghost use Rattle.linear.specs.Operations.{codesToLightSays, codesToLight, lightToCodesSays, lightToCodes};
 ghost use Rattle.tint.specs.Tints.{channels, tintPixel};
+ghost use Rattle.stickers.specs.Choices.{choiceOf};
+ghost use Rattle.stickers.specs.Stickers.{requestSays, pictureOf, stickers};
 ghost use Rattle.spool.specs.Open.{openSays};
 ghost use Rattle.spool.specs.Find.{findSaid, findSays};
 ghost use Rattle.frames.specs.Walk.{nextNumber};
 ghost use Rattle.layout.specs.LayOut.{layoutSays, layoutBytes};
 ghost use Rattle.listing.specs.Text.{putText};
 ghost use Rattle.listing.specs.Listing.{listing};
-ghost use Rattle.kiosk.specs.Interface.{minus, answerOf, placeOf, Gives, Converts, ConvertsAt, clipsAfter, Countable, Tints, samplesOfOne, openAnswer, openShop, openTable, findAnswer, findRecord};
+ghost use Rattle.kiosk.specs.Interface.{minus, answerOf, placeOf, Gives, Converts, ConvertsAt, clipsAfter, Countable, Tints, samplesOfOne, fourOf, sumsOf, openAnswer, openShop, openTable, findAnswer, findRecord};
 
 // A refusal, as C gets it.
 fn refused(refusal: Refusal) -> i64
@@ -263,6 +268,39 @@ pub extern "C" fn kiosk_tint_light(
     ensures { λ r. ⌜ Tints (Tint.Light (channels red green blue)) r (now (pixel .entry)) (now (pixel .exit)) (now (place .entry)) (now (place .exit)) ⌝ }
 {
     tinted(Tint::Light(Channels { red, green, blue }), pixel, place)
+}
+
+// ---- stickers
+
+// Four tints out of 16 for a picture: how many choices were looked at. Where that is accepted, `four` gets their
+// numbers, and `sums` the sum with them and that with all tints.
+#[no_mangle]
+pub extern "C" fn kiosk_stickers(
+    src: &[u8],
+    tints: &[u16; TINT_CODES],
+    budget: usize,
+    dst: &mut [u8],
+    four: &mut [u8; 4],
+    sums: &mut [u32; 2],
+    place: &mut usize,
+) -> i64
+    ensures gives { λ r. ⌜ Gives (requestSays (now (src .entry)) (now (tints .entry)) budget (length (now (dst .entry)))) (stickers (now (src .entry)) (now (tints .entry)) budget) r (now (dst .entry)) (now (dst .exit)) (now (place .entry)) (now (place .exit)) ⌝ }
+    ensures four { λ _. ⌜ now (four .exit) ≡ leaves (requestSays (now (src .entry)) (now (tints .entry)) budget (length (now (dst .entry)))) (fourOf (choiceOf (now (tints .entry)) (pictureOf (now (src .entry))) budget)) (now (four .entry)) ⌝ }
+    ensures sums { λ _. ⌜ now (sums .exit) ≡ leaves (requestSays (now (src .entry)) (now (tints .entry)) budget (length (now (dst .entry)))) (sumsOf (choiceOf (now (tints .entry)) (pictureOf (now (src .entry))) budget)) (now (sums .entry)) ⌝ }
+{
+    match choose(src, tints, budget, dst) {
+        Chosen::Accepted(choice) => {
+            let chosen = choice.four;
+            *four = [chosen.first, chosen.second, chosen.third, chosen.fourth];
+            *sums = [choice.sum, choice.least];
+            choice.looked as i64
+        }
+        Chosen::Refused(refusal) => refused(refusal),
+        Chosen::RefusedAt(refusal, at) => {
+            *place = at;
+            refused(refusal)
+        }
+    }
 }
 
 // ---- the round trip

@@ -1,15 +1,15 @@
--- The examples that are proved (rules 10.1 to 10.5, the depths of 10.6, 10.8 and 10.9), one after another. Those to 10.5, but for clipped
+-- The examples that are proved (rules 10.1 to 10.5, the depths of 10.6, 10.8 to 10.10), one after another. Those to 10.5, but for clipped
 -- codes and light at 16 bits, are document 01's starred swatches.
 -- Assumes nothing.
 use Prim.Native.Nat.{ℕ, suc, _+_, _-_}
 use mathlib.Core.Path.{_≡_}
 use mathlib.Core.Bool.{Bool, true, false}
-use mathlib.Core.List.{List, [], _∷_}
+use mathlib.Core.List.{List, [], _∷_, map}
 use lib.IntN.{ℤ, pos, negsuc}
 use lib.Ieee.{nan, inf, fin, neg}
 use Rattle.doubles.specs.Doubles.{double}
 use Rattle.samples.specs.declared.Pixel.{Pixel}
-use Rattle.samples.specs.Samples.{pixel}
+use Rattle.samples.specs.Samples.{pixel, samplesIn}
 use Rattle.esrgb.specs.Depths.{offset}
 use Rattle.esrgb.specs.Codes.{fromSrgb, toSrgb, srgbValue}
 use Rattle.picture.specs.declared.Conversion.{Conversion}
@@ -21,6 +21,9 @@ use Rattle.transfer.specs.Level.{codeOfLight}
 use Rattle.tint.specs.declared.Tint.{Tint}
 use Rattle.tint.specs.declared.Tint.the-variants.{Code, Nonlinear, Light}
 use Rattle.tint.specs.Tints.{TintSaid, gives, refusesAt, channels, tintSays}
+use Rattle.stickers.specs.declared.Four.{Four}
+use Rattle.stickers.specs.declared.Choice.{Choice}
+use Rattle.stickers.specs.Choices.{four, tintOf, chosen, choiceOf}
 
 -- An example: an operation, its input, and what the rules print for it. Single samples stand three to a pixel.
 pub data Example : Type 0 where
@@ -31,6 +34,8 @@ pub data Example : Type 0 where
   lightOf : ℕ → ℤ → ℤ → Example
   codeOf : ℕ → ℤ → ℕ → Example
   tint : Tint → TintSaid → Example
+  choiceFor : List ℕ → List Pixel → ℕ → Choice → Example
+  bytesFor : List ℕ → List Pixel → ℕ → List ℕ → Example
 
 -- The code of a level, which may be negative; negsuc k is −(k + 1).
 abbrev pub codeOfLevel : ℕ → ℤ → ℕ
@@ -38,7 +43,8 @@ codeOfLevel n (pos v) = offset n + v
 codeOfLevel n (negsuc k) = offset n - suc k
 
 -- What an example says: Convert of one pixel; a pixel of codes to luma and chroma and back; an sRGB pixel to codes, there and
--- back, and to sRGB; whether sRGB cannot hold a code; the light of a level; the code of a light; what is said of a tint.
+-- back, and to sRGB; whether sRGB cannot hold a code; the light of a level; the code of a light; what is said of a tint; the
+-- choice for a picture, and its bytes.
 abbrev pub Holds : Example → Type 0
 Holds (convert c p printed) = pixelOf c p ≡ printed
 Holds (thereAndBack n p printed) = toRgb n (toLumaChroma n p) ≡ printed
@@ -47,6 +53,24 @@ Holds (clips n code printed) = toSrgb n code .clipped ≡ printed
 Holds (lightOf n level printed) = lightOfCode n (codeOfLevel n level) ≡ printed
 Holds (codeOf n light printed) = codeOfLight n light ≡ printed
 Holds (tint t printed) = tintSays t ≡ printed
+Holds (choiceFor tints ps budget printed) = choiceOf tints ps budget ≡ printed
+Holds (bytesFor tints ps budget printed) = map (tintOf tints (chosen tints ps budget)) ps ≡ printed
+
+-- Rule 10.10: 16 tints that are white but for tints 5 and 9, and perhaps tint 2; and three pixels.
+abbrev pub white : Pixel
+white = pixel 4095 4095 4095
+
+abbrev pub tintsWith : Pixel → List ℕ
+tintsWith second =
+    samplesIn
+    (white ∷ white ∷ second ∷ white ∷ white ∷ pixel 10 0 0 ∷ white ∷ white ∷ white ∷ pixel 0 20 0
+    ∷ white ∷ white ∷ white ∷ white ∷ white ∷ white ∷ [])
+
+abbrev pub threePixels : List Pixel
+threePixels = pixel 10 0 0 ∷ pixel 0 20 0 ∷ pixel 0 0 0 ∷ []
+
+abbrev pub answer : Four → ℕ → ℕ → ℕ → Choice
+answer f sum looked least = record { four = f; sum = sum; looked = looked; least = least }
 
 infixr 40 _&_
 pub data AllHold : List Example → Type 0 where
@@ -155,4 +179,15 @@ examples =
     ∷ convert (FromSycc 10) (pixel 255 128 128) (pixel 895 893 896)
     ∷ convert (FromSycc 12) (pixel 255 128 128) (pixel 3582 3572 3583)
     ∷ convert (FromSycc 16) (pixel 255 128 128) (pixel 57306 57148 57329)
+    -- Rule 10.10.
+    ∷ choiceFor (tintsWith white) threePixels 1 (answer (four 0 1 2 3) 36825 1 10)
+    ∷ bytesFor (tintsWith white) threePixels 1 (0 ∷ 0 ∷ 0 ∷ [])
+    ∷ choiceFor (tintsWith white) threePixels 3 (answer (four 0 1 2 5) 40 3 10)
+    ∷ bytesFor (tintsWith white) threePixels 3 (5 ∷ 5 ∷ 5 ∷ [])
+    ∷ choiceFor (tintsWith white) threePixels 39 (answer (four 0 1 2 5) 40 39 10)
+    ∷ bytesFor (tintsWith white) threePixels 39 (5 ∷ 5 ∷ 5 ∷ [])
+    ∷ choiceFor (tintsWith white) threePixels 40 (answer (four 0 1 5 9) 10 40 10)
+    ∷ bytesFor (tintsWith white) threePixels 40 (5 ∷ 9 ∷ 5 ∷ [])
+    ∷ choiceFor (tintsWith (pixel 10 0 0)) threePixels 3 (answer (four 0 1 2 3) 40 3 10)
+    ∷ bytesFor (tintsWith (pixel 10 0 0)) threePixels 3 (2 ∷ 2 ∷ 2 ∷ [])
     ∷ []

@@ -296,8 +296,8 @@ pub extern "C" fn kiosk_stickers(
             choice.looked as i64
         }
         Chosen::Refused(refusal) => refused(refusal),
-        Chosen::RefusedAt(refusal, at) => {
-            *place = at;
+        Chosen::RefusedAt(refusal, position) => {
+            *place = position;
             refused(refusal)
         }
     }

@@ -15,7 +15,7 @@ use Rattle.stickers.specs.declared.Four.{Four}
 use Rattle.stickers.specs.Distances.{away, leastOf, summed}
 use Rattle.stickers.specs.Choices.{tintCount, choices, firstChoice, leastOfFour, sumOf, leastOfAll, sumOfAll}
 use Rattle.stickers.specs.Promise.{Ascending}
-use Rattle.stickers.specs.HowSummed.{after, blockSize, rowOf, entry, Column, BlockOf, rowSum, fourSum, Added, SumsOf}
+use Rattle.stickers.specs.HowSummed.{after, blockSize, rowOf, entry, Column, BlockOf, rowSum, fourSum, Added, SumsOf, mostEntry, entryCount}
 use Rattle.stickers.proofs.InOrder.{first-at, next-at, ascending-at}
 use Rattle.stickers.proofs.Nearest.{summed-more, summed-ends}
 
@@ -44,7 +44,7 @@ module _ (tints : List ℕ) (p : Pixel) (k : ℕ) (before : List ℕ) where
   filling-first = record { whole = refl; new = λ j h. absurd (omega arith); same = λ j i h other. refl }
 
   pub filling-more :
-      (rows : List ℕ) (t v : ℕ) → length before ≡ 4096 → k < blockSize → t < tintCount → v ≡ away tints p t → Filling tints p k before rows t
+      (rows : List ℕ) (t v : ℕ) → length before ≡ entryCount → k < blockSize → t < tintCount → v ≡ away tints p t → Filling tints p k before rows t
       → Filling tints p k before (set rows (rowOf t + k) v) (t + 1)
   filling-more rows t v whole here there is f =
       record {
@@ -110,7 +110,7 @@ pub record Adding (rows : List ℕ) (count limit : ℕ) (before sums : List ℕ)
   pub whole : length sums ≡ length before
   pub here : k < length choices → f ≡ getD choices k firstChoice
   pub new : (j : ℕ) → j < k → getD sums j 0 ≡ getD before j 0 + fourSum rows (getD choices j firstChoice) count
-  pub few : (j : ℕ) → j < k → fourSum rows (getD choices j firstChoice) count ≤ 65535 * count
+  pub few : (j : ℕ) → j < k → fourSum rows (getD choices j firstChoice) count ≤ mostEntry * count
   pub same : (j : ℕ) → k ≤ j → getD sums j 0 ≡ getD before j 0
 
 module _ (rows : List ℕ) (count limit : ℕ) (before : List ℕ) where
@@ -127,7 +127,7 @@ module _ (rows : List ℕ) (count limit : ℕ) (before : List ℕ) where
 
   pub adding-more :
       (sums : List ℕ) (f g : Four) (k sum v : ℕ) → limit ≤ length choices → length before ≡ length choices → k < limit → sum ≡ fourSum rows f count
-      → sum ≤ 65535 * count → v ≡ getD sums k 0 + sum → g ≡ after f → Adding rows count limit before sums f k
+      → sum ≤ mostEntry * count → v ≡ getD sums k 0 + sum → g ≡ after f → Adding rows count limit before sums f k
       → Adding rows count limit before (set sums k v) g (k + 1)
   adding-more sums f g k sum v most whole h is few e next a =
       let f-is : f ≡ getD choices k firstChoice = a .here (omega arith) in
@@ -162,10 +162,10 @@ pub record Summing (tints : List ℕ) (ps : List Pixel) (limit : ℕ) (sums : Li
   pub within : start ≤ length ps
   pub whole : length sums ≡ length choices
   pub all : sumOfAll tints ps ≡ least + summed (leastOfAll tints) (drop start ps)
-  pub few : least ≤ 65535 * start
+  pub few : least ≤ mostEntry * start
   pub each : (k : ℕ) → k < limit
       → sumOf tints ps (getD choices k firstChoice) ≡ getD sums k 0 + summed (leastOfFour tints (getD choices k firstChoice)) (drop start ps)
-  pub small : (k : ℕ) → k < limit → getD sums k 0 ≤ 65535 * start
+  pub small : (k : ℕ) → k < limit → getD sums k 0 ≤ mostEntry * start
 
 module _ (tints : List ℕ) (ps : List Pixel) (limit : ℕ) where
   pub summing-first : (sums : List ℕ) → length sums ≡ length choices → ((k : ℕ) → getD sums k 0 ≡ 0) → Summing tints ps limit sums 0 0
@@ -181,7 +181,7 @@ module _ (tints : List ℕ) (ps : List Pixel) (limit : ℕ) where
 
   pub summing-more :
       (before sums rows : List ℕ) (least more start count : ℕ) → limit ≤ length choices → start + count ≤ length ps
-      → SumTo (leastOfAll tints) ps start count more → more ≤ 65535 * count → BlockOf tints ps start count rows → Added rows count limit before sums
+      → SumTo (leastOfAll tints) ps start count more → more ≤ mostEntry * count → BlockOf tints ps start count rows → Added rows count limit before sums
       → Summing tints ps limit before least start → Summing tints ps limit sums (least + more) (start + count)
   summing-more before sums rows least more start count most h left few block added s =
       record {

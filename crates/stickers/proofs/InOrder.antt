@@ -14,7 +14,7 @@ use Rattle.numbers.proofs.Booleans.{and-true}
 use Rattle.stickers.specs.declared.Four.{Four}
 use Rattle.stickers.specs.Choices.{tintCount, upward, from, four, forEach, choices, firstChoice}
 use Rattle.stickers.specs.Promise.{Ascending, Listed, AllChoices}
-use Rattle.stickers.specs.HowSummed.{after}
+use Rattle.stickers.specs.HowSummed.{lastTint, after}
 
 -- ---- computed once: the number of choices, and that each follows from the one before
 abbrev ascends : Four → Bool
@@ -85,28 +85,28 @@ next-at k h = rw (add-one k, starts) (next-by firstChoice (drop 1 choices) k all
 
 -- ---- the choice after one, case by case
 module _ (f : Four) where
-  pub fourth-grows : f .fourth < 15 → four (f .first) (f .second) (f .third) (f .fourth + 1) ≡ after f
+  pub fourth-grows : f .fourth < lastTint → four (f .first) (f .second) (f .third) (f .fourth + 1) ≡ after f
   unfolding after
-  fourth-grows d = rw (lt-ltb (f .fourth) 15 d) refl
+  fourth-grows d = rw (lt-ltb (f .fourth) lastTint d) refl
 
-  module _ (d : 15 ≤ f .fourth) where
-    pub third-grows : f .third < 14 → four (f .first) (f .second) (f .third + 1) (f .third + 2) ≡ after f
+  module _ (d : lastTint ≤ f .fourth) where
+    pub third-grows : f .third < (lastTint - 1) → four (f .first) (f .second) (f .third + 1) (f .third + 2) ≡ after f
     unfolding after
-    third-grows c = rw (le-ltb (f .fourth) 15 d, lt-ltb (f .third) 14 c) refl
+    third-grows c = rw (le-ltb (f .fourth) lastTint d, lt-ltb (f .third) (lastTint - 1) c) refl
 
-    module _ (c : 14 ≤ f .third) where
-      pub second-grows : f .second < 13 → four (f .first) (f .second + 1) (f .second + 2) (f .second + 3) ≡ after f
+    module _ (c : (lastTint - 1) ≤ f .third) where
+      pub second-grows : f .second < (lastTint - 2) → four (f .first) (f .second + 1) (f .second + 2) (f .second + 3) ≡ after f
       unfolding after
-      second-grows b = rw (le-ltb (f .fourth) 15 d, le-ltb (f .third) 14 c, lt-ltb (f .second) 13 b) refl
+      second-grows b = rw (le-ltb (f .fourth) lastTint d, le-ltb (f .third) (lastTint - 1) c, lt-ltb (f .second) (lastTint - 2) b) refl
 
-      module _ (b : 13 ≤ f .second) where
-        pub first-grows : f .first < 12 → four (f .first + 1) (f .first + 2) (f .first + 3) (f .first + 4) ≡ after f
+      module _ (b : (lastTint - 2) ≤ f .second) where
+        pub first-grows : f .first < (lastTint - 3) → four (f .first + 1) (f .first + 2) (f .first + 3) (f .first + 4) ≡ after f
         unfolding after
-        first-grows a = rw (le-ltb (f .fourth) 15 d, le-ltb (f .third) 14 c, le-ltb (f .second) 13 b, lt-ltb (f .first) 12 a) refl
+        first-grows a = rw (le-ltb (f .fourth) lastTint d, le-ltb (f .third) (lastTint - 1) c, le-ltb (f .second) (lastTint - 2) b, lt-ltb (f .first) (lastTint - 3) a) refl
 
-        pub last-stays : 12 ≤ f .first → f ≡ after f
+        pub last-stays : (lastTint - 3) ≤ f .first → f ≡ after f
         unfolding after
-        last-stays a = rw (le-ltb (f .fourth) 15 d, le-ltb (f .third) 14 c, le-ltb (f .second) 13 b, le-ltb (f .first) 12 a) refl
+        last-stays a = rw (le-ltb (f .fourth) lastTint d, le-ltb (f .third) (lastTint - 1) c, le-ltb (f .second) (lastTint - 2) b, le-ltb (f .first) (lastTint - 3) a) refl
 
 -- ---- every four tints are in the list
 listed-left : (fs gs : List Four) (f : Four) → Listed fs f → Listed (fs ++ gs) f

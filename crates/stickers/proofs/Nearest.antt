@@ -62,7 +62,7 @@ module _ (tints : List ℕ) (p : Pixel) where
   -- No tint is nearer than the least of all.
   least-of-all : (t : ℕ) → t < tintCount → leastOfAll tints p ≤ away tints p t
   least-of-all zero h = least-first (away tints p 0) (from 1)
-  least-of-all (suc t) h = least-upward 15 (away tints p 0) 1 (suc t) (omega arith) (omega arith)
+  least-of-all (suc t) h = least-upward (tintCount - 1) (away tints p 0) 1 (suc t) (omega arith) (omega arith)
 
   four-above : (f : Four) → Ascending f → leastOfAll tints p ≤ leastOfFour tints f p
   unfolding leastOf

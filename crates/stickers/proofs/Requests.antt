@@ -98,7 +98,7 @@ first-accepted P (refused k) next n e given = absurd (not-accepted k n e)
 first-accepted P (refusedAt k at) next n e given = absurd (not-accepted-at k at n e)
 
 -- ---- what an accepted picture is
-pub length-picture : (src : List ℕ) → length (pictureOf src) ≡ length src / 6
+pub length-picture : (src : List ℕ) → length (pictureOf src) ≡ length src / pixelSize true
 length-picture src = omega (arith, length-pixels (twoByTwo src), length-two src)
 
 pub record SoundPicture (src : List ℕ) (room : ℕ) : Type 0 where
@@ -106,18 +106,18 @@ pub record SoundPicture (src : List ℕ) (room : ℕ) : Type 0 where
   pub room-is : room ≡ length (pictureOf src)
 
 module _ (src : List ℕ) (room n : ℕ) (h : pictureSays src room ≡ accepted n) where
-  said-parts : (orElse (lengthFault true (length src)) (roomFault (length src / 6) room) ≡ sound) × (samplesSay (Codes (greatest 12) false) (accepted (length src / 6)) 0 (twoByTwo src) ≡ accepted n)
-  said-parts = or-accepted (orElse (lengthFault true (length src)) (roomFault (length src / 6) room)) _ n h
+  said-parts : (orElse (lengthFault true (length src)) (roomFault (length src / pixelSize true) room) ≡ sound) × (samplesSay (Codes (greatest 12) false) (accepted (length src / pixelSize true)) 0 (twoByTwo src) ≡ accepted n)
+  said-parts = or-accepted (orElse (lengthFault true (length src)) (roomFault (length src / pixelSize true) room)) _ n h
 
-  pub picture-count : length src / 6 ≡ n
-  picture-count = accepted-count (greatest 12) (length src / 6) n 0 (twoByTwo src) (said-parts .1)
+  pub picture-count : length src / pixelSize true ≡ n
+  picture-count = accepted-count (greatest 12) (length src / pixelSize true) n 0 (twoByTwo src) (said-parts .1)
 
   pub picture-sound : SoundPicture src room
   picture-sound =
-      let lengths = both-sound (lengthFault true (length src)) (roomFault (length src / 6) room) (said-parts .0) in
+      let lengths = both-sound (lengthFault true (length src)) (roomFault (length src / pixelSize true) room) (said-parts .0) in
       let fits = passed _ 11 sound (lengths .1) in
-      let exact = eqb-true room (length src / 6) (not-false _ (fits .0)) in
-      record { codes = accepted-within (greatest 12) (length src / 6) n 0 (twoByTwo src) (said-parts .1); room-is = omega (arith, exact, length-picture src) }
+      let exact = eqb-true room (length src / pixelSize true) (not-false _ (fits .0)) in
+      record { codes = accepted-within (greatest 12) (length src / pixelSize true) n 0 (twoByTwo src) (said-parts .1); room-is = omega (arith, exact, length-picture src) }
 
 -- ---- the picture decides, or leaves it to the rest
 module _ (src tints : List ℕ) (budget room : ℕ) where
@@ -125,11 +125,11 @@ module _ (src tints : List ℕ) (budget room : ℕ) where
   unfolding requestSays
   rest-decides pixels e =
       ap (workSays (length src) tints budget) (sym (picture-count src room pixels e))
-      ∙ sym (ap (λ s. andThen s (workSays (length src) tints budget (length src / 6))) e)
+      ∙ sym (ap (λ s. andThen s (workSays (length src) tints budget (length src / pixelSize true))) e)
 
   pub picture-decides : (s : Said) → ((n : ℕ) → s ≡ accepted n → ⊥) → s ≡ pictureSays src room → s ≡ requestSays src tints budget room
   unfolding requestSays
-  picture-decides s never e = sym (then-stands s _ never) ∙ ap (λ first. andThen first (workSays (length src) tints budget (length src / 6))) e
+  picture-decides s never e = sym (then-stands s _ never) ∙ ap (λ first. andThen first (workSays (length src) tints budget (length src / pixelSize true))) e
 
 -- ---- what accepted tints, budget and number of pixels are
 code-by :
@@ -179,12 +179,12 @@ work-sound len tints budget pixels n h =
 -- ---- what an accepted request is
 pub record SoundRequest (src tints : List ℕ) (budget room n : ℕ) : Type 0 where
   pub picture : SoundPicture src room
-  pub work : SoundWork tints budget (length src / 6) n
+  pub work : SoundWork tints budget (length src / pixelSize true) n
 
 pub request-sound : (src tints : List ℕ) (budget room n : ℕ) → requestSays src tints budget room ≡ accepted n → SoundRequest src tints budget room n
 unfolding requestSays
 request-sound src tints budget room n h =
     record {
       picture = first-accepted (SoundPicture src room) (pictureSays src room) _ n h (λ m e. picture-sound src room m e);
-      work = work-sound (length src) tints budget (length src / 6) n (then-accepted (pictureSays src room) _ n h);
+      work = work-sound (length src) tints budget (length src / pixelSize true) n (then-accepted (pictureSays src room) _ n h);
     }

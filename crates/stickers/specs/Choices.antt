@@ -1,6 +1,6 @@
 -- The choices of four tints, in their order, and the one that is chosen (rules 13.4 to 13.6).
 -- Assumes nothing.
-use Prim.Native.Nat.{ℕ, zero, suc, _+_, _-_, min}
+use Prim.Native.Nat.{ℕ, zero, suc, _+_, _-_, _*_, min}
 use mathlib.Core.Bool.{cond}
 use mathlib.Core.List.{List, [], _∷_, _++_, map}
 use lib.Dec.{ltb}
@@ -15,9 +15,9 @@ abbrev pub tintCount : ℕ
 tintCount = 16
 
 abbrev pub tintCodes : ℕ
-tintCodes = 48
+tintCodes = 3 * tintCount
 
--- Count numbers from n on, and the tints' numbers from n on.
+-- `count` numbers from n on; and the tints' numbers from n on.
 unfoldable pub upward : ℕ → ℕ → List ℕ
 upward zero n = []
 upward (suc count) n = n ∷ upward count (n + 1)

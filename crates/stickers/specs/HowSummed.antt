@@ -1,7 +1,7 @@
 -- How the code goes about the sums of all choices: in blocks of pixels, with a row of distances for each tint, and from choice to choice.
 -- The proofs show that this comes to the sums of Choices.
 -- Assumes nothing.
-use Prim.Native.Nat.{ℕ, zero, suc, _+_, _*_, _≤_, _<_, min}
+use Prim.Native.Nat.{ℕ, zero, suc, _+_, _-_, _*_, _≤_, _<_, min}
 use mathlib.Core.Path.{_≡_}
 use mathlib.Core.Bool.{cond}
 use mathlib.Core.List.{List}
@@ -25,18 +25,29 @@ TintCodes tints = (k : ℕ) → k < tintCodes → getD tints k 0 ≤ greatest 12
 abbrev pub CodePixel : Pixel → Type 0
 CodePixel p = (p .first ≤ greatest 12) × (p .second ≤ greatest 12) × (p .third ≤ greatest 12)
 
+-- The number of the last tint.
+abbrev pub lastTint : ℕ
+lastTint = tintCount - 1
+
 -- The choice after f: the last number that can grow does, and those behind it follow closely. The last choice stays.
 unfoldable pub after : Four → Four
 after f =
-    cond (ltb (f .fourth) 15) (four (f .first) (f .second) (f .third) (f .fourth + 1))
-    (cond (ltb (f .third) 14) (four (f .first) (f .second) (f .third + 1) (f .third + 2))
-    (cond (ltb (f .second) 13) (four (f .first) (f .second + 1) (f .second + 2) (f .second + 3))
-    (cond (ltb (f .first) 12) (four (f .first + 1) (f .first + 2) (f .first + 3) (f .first + 4))
+    cond (ltb (f .fourth) lastTint) (four (f .first) (f .second) (f .third) (f .fourth + 1))
+    (cond (ltb (f .third) (lastTint - 1)) (four (f .first) (f .second) (f .third + 1) (f .third + 2))
+    (cond (ltb (f .second) (lastTint - 2)) (four (f .first) (f .second + 1) (f .second + 2) (f .second + 3))
+    (cond (ltb (f .first) (lastTint - 3)) (four (f .first + 1) (f .first + 2) (f .first + 3) (f .first + 4))
     f)))
 
 -- A block: so many pixels at most, and for each tint a row of their distances.
 abbrev pub blockSize : ℕ
 blockSize = 256
+
+abbrev pub entryCount : ℕ
+entryCount = tintCount * blockSize
+
+-- No entry is greater, whatever it is: it has 16 bits.
+abbrev pub mostEntry : ℕ
+mostEntry = 65535
 
 abbrev pub rowOf : ℕ → ℕ
 rowOf t = blockSize * t
@@ -67,7 +78,7 @@ fourSum rows f count = rowSum rows (rowOf (f .first)) (rowOf (f .second)) (rowOf
 pub record Added (rows : List ℕ) (count limit : ℕ) (before sums : List ℕ) : Type 0 where
   pub whole : length sums ≡ length before
   pub more : (k : ℕ) → k < limit → getD sums k 0 ≡ getD before k 0 + fourSum rows (getD choices k firstChoice) count
-  pub few : (k : ℕ) → k < limit → fourSum rows (getD choices k firstChoice) count ≤ 65535 * count
+  pub few : (k : ℕ) → k < limit → fourSum rows (getD choices k firstChoice) count ≤ mostEntry * count
 
 -- Numbers that are the sums of the first choices, by some rule of what a choice's sum is.
 abbrev pub SumsOf : (Four → ℕ) → ℕ → List ℕ → Type 0

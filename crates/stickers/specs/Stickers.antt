@@ -6,7 +6,7 @@ use mathlib.Core.List.{List, map}
 use lib.Dec.{eqb, ltb}
 use lib.ListN.{length, getD}
 use Rattle.refusal.specs.Refusals.{numberOf}
-use Rattle.refusal.specs.Answers.{Verdict, sound, faulty, orElse, Said, accepted, refused, refusedAt, refusesOr, andThen, leaves}
+use Rattle.refusal.specs.Answers.{Verdict, sound, faulty, orElse, Said, accepted, refused, refusedAt, refusesOr, andThen}
 use Rattle.samples.specs.declared.Coding.the-variants.{Codes}
 use Rattle.samples.specs.declared.Pixel.{Pixel}
 use Rattle.samples.specs.Samples.{pixelSize, twoByTwo, read}

@@ -19,7 +19,7 @@ ghost use Rattle.stickers.specs.Distances.{apart, away, winner, summed};
 ghost use Rattle.stickers.specs.Choices.{tintCount, tintCodes, four, choices, tintOf, sumOf, leastOfAll, sumOfAll, choiceOf};
 ghost use Rattle.stickers.specs.Stickers.{pictureSays, tintsSay, mostPixels, workSays, requestSays, pictureOf, chosenSaid, stickersSays, stickers};
 ghost use Rattle.stickers.specs.Promise.{Ascending, Promised};
-ghost use Rattle.stickers.specs.HowSummed.{AllCodes, TintCodes, CodePixel, after, blockSize, rowOf, Column, BlockOf, rowSum, fourSum, Added, SumsOf, BestOf};
+ghost use Rattle.stickers.specs.HowSummed.{AllCodes, TintCodes, CodePixel, after, blockSize, entryCount, mostEntry, rowOf, Column, BlockOf, rowSum, fourSum, Added, SumsOf, BestOf};
 
 // Four tints by number, ascending.
 pub struct Four {
@@ -45,7 +45,9 @@ pub enum Chosen {
     RefusedAt(Refusal, usize),
 }
 
-// The codes of 16 tints, three to a tint.
+const TINTS: usize = 16;
+
+// The codes of the tints, three to a tint.
 pub const TINT_CODES: usize = 48;
 
 // Chooses four tints for a picture, and writes the number of each pixel's tint.
@@ -171,7 +173,7 @@ fn lesser(x: u16, y: u16) -> u16
 // The pixels of a block.
 const BLOCK: usize = 256;
 
-// The entries of a block: a row for each of 16 tints.
+// The entries of a block: a row for each tint.
 const ENTRIES: usize = 4096;
 
 // Where the row of a tint starts.
@@ -183,13 +185,13 @@ fn row_of(t: u8) -> usize
 
 // Puts a pixel's distances in column k of the rows. The result is the least of them.
 fn fill_column(tints: &[u16; TINT_CODES], pixel: Pixel, k: usize, rows: &mut [u16; ENTRIES]) -> u16
-    requires { ⌜ TintCodes (now tints) × CodePixel pixel × (k < blockSize) × (length (now rows) ≡ 4096) ⌝ }
+    requires { ⌜ TintCodes (now tints) × CodePixel pixel × (k < blockSize) × (length (now rows) ≡ entryCount) ⌝ }
     ensures least { λ r. ⌜ r ≡ leastOfAll (now (tints .entry)) pixel ⌝ }
     ensures column { λ _. ⌜ Column (now (tints .entry)) pixel k (now (rows .entry)) (now (rows .exit)) ⌝ }
 {
     let mut least = distance_to(tints, pixel, 0);
     let mut t = 0;
-    while t < 16 {
+    while t < TINTS {
         let distance = distance_to(tints, pixel, t);
         rows[BLOCK * t + k] = distance;
         least = lesser(least, distance);
@@ -206,11 +208,11 @@ fn fill_block(
     count: usize,
     rows: &mut [u16; ENTRIES],
 ) -> u32
-    requires { ⌜ TintCodes (now tints) × AllCodes (twoByTwo (now src)) × (count ≤ blockSize) × (start + count ≤ length (pictureOf (now src))) × (length (now rows) ≡ 4096) ⌝ }
+    requires { ⌜ TintCodes (now tints) × AllCodes (twoByTwo (now src)) × (count ≤ blockSize) × (start + count ≤ length (pictureOf (now src))) × (length (now rows) ≡ entryCount) ⌝ }
     ensures least { λ r. ⌜ summed (leastOfAll (now (tints .entry))) (drop start (pictureOf (now (src .entry)))) ≡ r + summed (leastOfAll (now (tints .entry))) (drop (start + count) (pictureOf (now (src .entry)))) ⌝ }
-    ensures few { λ r. ⌜ r ≤ 65535 * count ⌝ }
+    ensures few { λ r. ⌜ r ≤ mostEntry * count ⌝ }
     ensures block { λ _. ⌜ BlockOf (now (tints .entry)) (pictureOf (now (src .entry))) start count (now (rows .exit)) ⌝ }
-    ensures whole { λ _. ⌜ length (now (rows .exit)) ≡ 4096 ⌝ }
+    ensures whole { λ _. ⌜ length (now (rows .exit)) ≡ entryCount ⌝ }
 {
     let mut sum: u32 = 0;
     let mut k = 0;
@@ -224,9 +226,9 @@ fn fill_block(
 
 // The sum over a block of the least of four rows, which start at a, b, c and d.
 fn row_sum(rows: &[u16; ENTRIES], a: usize, b: usize, c: usize, d: usize, count: usize) -> u32
-    requires { ⌜ (count ≤ blockSize) × (a + count ≤ 4096) × (b + count ≤ 4096) × (c + count ≤ 4096) × (d + count ≤ 4096) ⌝ }
+    requires { ⌜ (count ≤ blockSize) × (a + count ≤ entryCount) × (b + count ≤ entryCount) × (c + count ≤ entryCount) × (d + count ≤ entryCount) ⌝ }
     ensures sum { λ r. ⌜ r ≡ rowSum (now (rows .entry)) a b c d count ⌝ }
-    ensures few { λ r. ⌜ r ≤ 65535 * count ⌝ }
+    ensures few { λ r. ⌜ r ≤ mostEntry * count ⌝ }
 {
     let mut sum: u32 = 0;
     let mut k = 0;
@@ -243,7 +245,7 @@ fn row_sum(rows: &[u16; ENTRIES], a: usize, b: usize, c: usize, d: usize, count:
 fn four_sum(rows: &[u16; ENTRIES], four: Four, count: usize) -> u32
     requires { ⌜ Ascending four × (count ≤ blockSize) ⌝ }
     ensures sum { λ r. ⌜ r ≡ fourSum (now (rows .entry)) four count ⌝ }
-    ensures few { λ r. ⌜ r ≤ 65535 * count ⌝ }
+    ensures few { λ r. ⌜ r ≤ mostEntry * count ⌝ }
 {
     row_sum(
         rows,
@@ -268,7 +270,9 @@ fn four_of(first: u8, second: u8, third: u8, fourth: u8) -> Four
     }
 }
 
-// The choice after one. The last stays.
+const LAST_TINT: u8 = 15;
+
+// The choice after one: the last number that can grow does, and those behind it follow closely. The last stays.
 fn following(choice: Four) -> Four
     ensures { λ r. ⌜ r ≡ after choice ⌝ }
 {
@@ -276,16 +280,16 @@ fn following(choice: Four) -> Four
     let b = choice.second;
     let c = choice.third;
     let d = choice.fourth;
-    if d < 15 {
+    if d < LAST_TINT {
         return four_of(a, b, c, d + 1);
     }
-    if c < 14 {
+    if c < LAST_TINT - 1 {
         return four_of(a, b, c + 1, c + 2);
     }
-    if b < 13 {
+    if b < LAST_TINT - 2 {
         return four_of(a, b + 1, b + 2, b + 3);
     }
-    if a < 12 {
+    if a < LAST_TINT - 3 {
         return four_of(a + 1, a + 2, a + 3, a + 4);
     }
     choice
@@ -293,7 +297,7 @@ fn following(choice: Four) -> Four
 
 // Adds a block's sums to those of the first choices, as many as the limit.
 fn add_block(rows: &[u16; ENTRIES], count: usize, limit: usize, sums: &mut [u32; CHOICES])
-    requires { ⌜ (count ≤ blockSize) × (limit ≤ length choices) × ((k : ℕ) → k < limit → getD (now sums) k 0 + 65535 * count < 2 ^ 32) × (length (now sums) ≡ length choices) ⌝ }
+    requires { ⌜ (count ≤ blockSize) × (limit ≤ length choices) × ((k : ℕ) → k < limit → getD (now sums) k 0 + mostEntry * count < 2 ^ 32) × (length (now sums) ≡ length choices) ⌝ }
     ensures { λ _. ⌜ Added (now (rows .entry)) count limit (now (sums .entry)) (now (sums .exit)) ⌝ }
 {
     let mut four = four_of(0, 1, 2, 3);

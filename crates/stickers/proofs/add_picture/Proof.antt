@@ -6,6 +6,7 @@ use native.Mathlib.Omega.{arith}
 use denote.Ref.{now}
 use lib.ListN.{length}
 use Rattle.stickers.specs.Stickers.{pictureOf}
+use Rattle.stickers.specs.HowSummed.{entryCount}
 use Rattle.stickers.proofs.Blocks.{Summing, summing-first, summing-more, summing-done}
 use Rattle.stickers.proofs.Requests.{length-picture}
 use borrow.Author.Needs.{needs}
@@ -14,7 +15,7 @@ use Rattle.stickers.proofs.add_picture.Tie as tie
 
 abbrev Inv-loop : tie.InvT-loop
 Inv-loop src tints limit sums₀ pixels rows₀ least₀ start₀ sums rows least start =
-    (length rows ≡ 4096) × Summing tints (pictureOf src) limit sums least start
+    (length rows ≡ entryCount) × Summing tints (pictureOf src) limit sums least start
 
 abbrev μ-loop : tie.MeasureT-loop
 μ-loop src tints limit sums₀ pixels rows₀ least₀ start₀ sums rows least start = length (pictureOf src) - start

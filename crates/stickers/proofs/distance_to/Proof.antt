@@ -2,8 +2,9 @@
 -- Assumes nothing.
 use Prim.Native.Nat.{_+_, _*_, _≤_}
 use native.Mathlib.Omega.{arith}
+use denote.Ref.{now}
 use Rattle.esrgb.specs.Depths.{greatest}
-use Rattle.stickers.specs.Distances.{away}
+use Rattle.stickers.specs.Distances.{tint, apart, away}
 use Rattle.stickers.proofs.Nearest.{apart-small, three-is}
 use borrow.Author.Needs.{needs}
 use Rattle.stickers.proofs.distance_to.Statement.{statement}
@@ -75,7 +76,11 @@ add-result-2 c = omega (arith, first-apart (c .before .before .before .before), 
 
 returns : tie.Need-returns
 unfolding away
-returns c = three-is _ _ _ _ _ _ (c .before .before .before .before .difference .ensures) (c .before .before .difference2 .ensures) (c .difference3 .ensures)
+returns c =
+    let a = c .before .before .before .before .before .before .args in
+    let q = tint (now (a .tints)) (a .t) in
+    three-is _ _ _ (apart (a .pixel .first) (q .first)) (apart (a .pixel .second) (q .second)) (apart (a .pixel .third) (q .third))
+    (c .before .before .before .before .difference .ensures) (c .before .before .difference2 .ensures) (c .difference3 .ensures)
 
 pub distance-to-spec : {M : Type 1} → statement M
 distance-to-spec =

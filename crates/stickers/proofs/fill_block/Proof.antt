@@ -8,7 +8,7 @@ use lib.ListN.{length}
 use Rattle.samples.specs.Samples.{twoByTwo}
 use Rattle.stickers.specs.Choices.{leastOfAll}
 use Rattle.stickers.specs.Stickers.{pictureOf}
-use Rattle.stickers.specs.HowSummed.{BlockOf}
+use Rattle.stickers.specs.HowSummed.{BlockOf, mostEntry, entryCount}
 use Rattle.stickers.proofs.Nearest.{pixel-codes}
 use Rattle.stickers.proofs.Requests.{length-picture}
 use Rattle.stickers.proofs.Blocks.{block-more, SumTo, sum-none, sum-more}
@@ -18,7 +18,7 @@ use Rattle.stickers.proofs.fill_block.Tie as tie
 
 abbrev Inv-loop : tie.InvT-loop
 Inv-loop src tints start count rows₀ sum₀ k₀ rows sum k =
-    (k ≤ count) × (sum ≤ 65535 * k) × (length rows ≡ 4096) × SumTo (leastOfAll tints) (pictureOf src) start k sum × BlockOf tints (pictureOf src) start k rows
+    (k ≤ count) × (sum ≤ mostEntry * k) × (length rows ≡ entryCount) × SumTo (leastOfAll tints) (pictureOf src) start k sum × BlockOf tints (pictureOf src) start k rows
 
 abbrev μ-loop : tie.MeasureT-loop
 μ-loop src tints start count rows₀ sum₀ k₀ rows sum k = count - k

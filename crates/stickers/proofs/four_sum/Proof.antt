@@ -1,6 +1,7 @@
 -- `stickers::four_sum` meets its contract: the rows of the four.
 -- Assumes nothing.
 use denote.Ref.{now}
+use Rattle.stickers.specs.HowSummed.{rowOf}
 use Rattle.stickers.proofs.Blocks.{starts-are}
 use borrow.Author.Needs.{needs}
 use Rattle.stickers.proofs.four_sum.Statement.{statement}
@@ -24,7 +25,7 @@ row-sum-requires c κs = search needs
 returns : tie.Need-returns
 returns c =
     let a = c .before .before .before .before .before .args in
-    (starts-are (now (a .rows)) _ _ _ _ _ _ _ _ _ _ (c .before .before .before .before .row-of .ensures) (c .before .before .before .row-of2 .ensures) (c .before .before .row-of3 .ensures) (c .before .row-of4 .ensures) (c .row-sum .ensures .0), c .row-sum .ensures .1)
+    (starts-are (now (a .rows)) _ _ _ _ (rowOf (a .four .first)) (rowOf (a .four .second)) (rowOf (a .four .third)) (rowOf (a .four .fourth)) _ _ (c .before .before .before .before .row-of .ensures) (c .before .before .before .row-of2 .ensures) (c .before .before .row-of3 .ensures) (c .before .row-of4 .ensures) (c .row-sum .ensures .0), c .row-sum .ensures .1)
 
 pub four-sum-spec : {M : Type 1} → statement M
 four-sum-spec =

@@ -4,14 +4,14 @@ use Prim.Native.Nat.{_-_, _*_, _≤_}
 use mathlib.Core.Path.{_≡_, refl, ap, _∙_}
 use native.Mathlib.Omega.{arith}
 use denote.Ref.{now}
-use Rattle.stickers.specs.HowSummed.{rowSum}
+use Rattle.stickers.specs.HowSummed.{rowSum, mostEntry}
 use Rattle.stickers.proofs.Blocks.{row-more}
 use borrow.Author.Needs.{needs}
 use Rattle.stickers.proofs.row_sum.Statement.{statement}
 use Rattle.stickers.proofs.row_sum.Tie as tie
 
 abbrev Inv-loop : tie.InvT-loop
-Inv-loop rows a b c d count sum₀ k₀ sum k = (k ≤ count) × (sum ≤ 65535 * k) × (sum ≡ rowSum rows a b c d k)
+Inv-loop rows a b c d count sum₀ k₀ sum k = (k ≤ count) × (sum ≤ mostEntry * k) × (sum ≡ rowSum rows a b c d k)
 
 abbrev μ-loop : tie.MeasureT-loop
 μ-loop rows a b c d count sum₀ k₀ sum k = count - k

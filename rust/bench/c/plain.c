@@ -614,24 +614,17 @@ static void add_block(const uint16_t *rows, size_t count, uint32_t *totals, size
     }
 }
 
-int64_t plain_stickers(const uint8_t *src, size_t src_len, const uint16_t tints[48], size_t budget,
-                       uint8_t *dst, size_t dst_len, uint8_t four[4], uint32_t sums[2], size_t *place)
+/* Adds a picture to the sums of the first choices, block by block. Gives the sum with all tints. */
+static uint32_t add_blocks(const uint8_t *src, size_t pixels, const uint16_t *tints, uint32_t *totals, size_t limit)
 {
-    int64_t fault = check_stickers(src, src_len, tints, budget, dst_len, place);
-    if (fault < 0)
-        return fault;
-    size_t limit = budget < CHOICES ? budget : CHOICES;
-    uint32_t totals[CHOICES] = {0}, with_all = 0;
+    uint32_t with_all = 0;
     uint16_t rows[BLOCK * TINTS];
-    for (size_t start = 0; start < dst_len; start += BLOCK) {
-        size_t count = dst_len - start < BLOCK ? dst_len - start : BLOCK;
+    for (size_t start = 0; start < pixels; start += BLOCK) {
+        size_t count = pixels - start < BLOCK ? pixels - start : BLOCK;
         with_all += fill_rows(src + 6 * start, count, tints, rows);
         add_block(rows, count, totals, limit);
     }
-    sums[0] = put_best(totals, limit, four);
-    sums[1] = with_all;
-    write_nearest(src, dst_len, tints, four, dst);
-    return (int64_t)limit;
+    return with_all;
 }
 
 /* Adds a pixel to the sums of the first choices. */
@@ -644,15 +637,11 @@ static void add_pixel(const uint16_t distances[TINTS], uint32_t *totals, size_t 
     }
 }
 
-int64_t obvious_stickers(const uint8_t *src, size_t src_len, const uint16_t tints[48], size_t budget,
-                         uint8_t *dst, size_t dst_len, uint8_t four[4], uint32_t sums[2], size_t *place)
+/* The same pixel by pixel. */
+static uint32_t add_pixels(const uint8_t *src, size_t pixels, const uint16_t *tints, uint32_t *totals, size_t limit)
 {
-    int64_t fault = check_stickers(src, src_len, tints, budget, dst_len, place);
-    if (fault < 0)
-        return fault;
-    size_t limit = budget < CHOICES ? budget : CHOICES;
-    uint32_t totals[CHOICES] = {0}, with_all = 0;
-    for (size_t p = 0; p < dst_len; p++) {
+    uint32_t with_all = 0;
+    for (size_t p = 0; p < pixels; p++) {
         uint16_t distances[TINTS], shortest = UINT16_MAX;
         for (size_t t = 0; t < TINTS; t++) {
             distances[t] = distance(src, p, tints, t);
@@ -661,8 +650,33 @@ int64_t obvious_stickers(const uint8_t *src, size_t src_len, const uint16_t tint
         with_all += shortest;
         add_pixel(distances, totals, limit);
     }
+    return with_all;
+}
+
+/* Stickers, with the sums made by one method or the other. */
+static inline int64_t stickers_by(uint32_t (*add)(const uint8_t *, size_t, const uint16_t *, uint32_t *, size_t),
+                                  const uint8_t *src, size_t src_len, const uint16_t *tints, size_t budget,
+                                  uint8_t *dst, size_t dst_len, uint8_t four[4], uint32_t sums[2], size_t *place)
+{
+    int64_t fault = check_stickers(src, src_len, tints, budget, dst_len, place);
+    if (fault < 0)
+        return fault;
+    size_t limit = budget < CHOICES ? budget : CHOICES;
+    uint32_t totals[CHOICES] = {0};
+    sums[1] = add(src, dst_len, tints, totals, limit);
     sums[0] = put_best(totals, limit, four);
-    sums[1] = with_all;
     write_nearest(src, dst_len, tints, four, dst);
     return (int64_t)limit;
+}
+
+int64_t plain_stickers(const uint8_t *src, size_t src_len, const uint16_t tints[48], size_t budget,
+                       uint8_t *dst, size_t dst_len, uint8_t four[4], uint32_t sums[2], size_t *place)
+{
+    return stickers_by(add_blocks, src, src_len, tints, budget, dst, dst_len, four, sums, place);
+}
+
+int64_t obvious_stickers(const uint8_t *src, size_t src_len, const uint16_t tints[48], size_t budget,
+                         uint8_t *dst, size_t dst_len, uint8_t four[4], uint32_t sums[2], size_t *place)
+{
+    return stickers_by(add_pixels, src, src_len, tints, budget, dst, dst_len, four, sums, place);
 }

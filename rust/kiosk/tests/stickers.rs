@@ -235,6 +235,26 @@ fn reads_tints_as_people_write_them() {
     }
 }
 
+/// The sample of tints, for the first of the sample's frames. Its values 1 to 6 are codes of 8, 16 and 24, and of 32,
+/// 40 and 48 above black's, which is tint 0.
+#[test]
+fn takes_the_sample() {
+    let folder = folder("tints-sample");
+    for name in ["two-frames.spool", "tints.txt"] {
+        let samples = Path::new(env!("CARGO_MANIFEST_DIR")).join("../../samples");
+        fs::copy(samples.join(name), folder.join(name)).expect("copied");
+    }
+    let words = "stickers two-frames.spool 0 --tints tints.txt --out numbers";
+    let done = kiosk(&folder, &words.split(' ').collect::<Vec<_>>());
+    assert!(done.status.success());
+    assert_eq!(
+        text(&done.stdout),
+        "tints 0, 1, 2, 3\nsum 168\nchoices looked at: 1820 of 1820\nsum with all 16 tints: 168\n\
+         no choice has a smaller sum\n"
+    );
+    assert_eq!(written(&folder, "numbers"), [0, 0]);
+}
+
 /// A file of tints that must be refused.
 fn tints_fail(folder: &Path, tints: &[u8], error: &str) {
     write(folder, "tints", tints);

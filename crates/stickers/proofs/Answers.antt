@@ -10,7 +10,7 @@ use Rattle.refusal.specs.Answers.{Said, accepted, refused, refusedAt, leaves}
 use Rattle.stickers.specs.declared.Choice.{Choice}
 use Rattle.stickers.specs.declared.Chosen.{Chosen}
 use Rattle.stickers.specs.declared.Chosen.the-variants.{Accepted, Refused, RefusedAt}
-use Rattle.stickers.specs.Choices.{tintOf, allowed, chosen, choiceOf}
+use Rattle.stickers.specs.Choices.{tintOf, allowed, choiceOf}
 use Rattle.stickers.specs.Stickers as stickers
 use Rattle.stickers.specs.Stickers.{chooses, requestSays, chosenSaid, choosesIf, pictureOf, stickersSays, stickers}
 use Rattle.stickers.specs.Promise.{Promised}

@@ -16,9 +16,9 @@ use Rattle.stickers.specs.declared.Four.{Four}
 use Rattle.stickers.specs.declared.Summed.{Summed}
 use Rattle.stickers.specs.declared.Choice.{Choice}
 use Rattle.stickers.specs.Choices.{choices, firstChoice, others, sumOf, sumOfAll, bestFrom, best, allowed, lookedAt, chosen, choiceOf}
-use Rattle.stickers.specs.Promise.{Ascending, Listed, Earliest, Promised}
-use Rattle.stickers.specs.HowSummed.{after, SumsOf, BestOf}
-use Rattle.stickers.proofs.InOrder.{starts, first-at, next-at, ascending-at, every-listed}
+use Rattle.stickers.specs.Promise.{Ascending, Earliest, Promised}
+use Rattle.stickers.specs.HowSummed.{BestOf}
+use Rattle.stickers.proofs.InOrder.{starts, ascending-at, every-listed}
 use Rattle.stickers.proofs.Nearest.{nearest-least, sum-above}
 
 -- ---- the choices that are looked at

@@ -1,7 +1,7 @@
 -- The nearest tint is at the least distance, no four tints are nearer than all, and sums pixel by pixel.
 -- Assumes nothing.
-use Prim.Native.Nat.{ℕ, zero, suc, _+_, _-_, _*_, _≤_, _<_, min}
-use mathlib.Core.Path.{_≡_, refl, sym, ap, _∙_}
+use Prim.Native.Nat.{ℕ, zero, suc, _+_, _-_, _≤_, _<_, min}
+use mathlib.Core.Path.{_≡_, refl, ap, _∙_}
 use mathlib.Core.Bool.{Bool, true, false, cond}
 use mathlib.Core.List.{List, [], _∷_}
 use mathlib.Core.Logic.{⊎-elim}
@@ -17,7 +17,7 @@ use Rattle.samples.specs.Samples.{noPixel, pixelsOf}
 use Rattle.esrgb.specs.Depths.{greatest}
 use Rattle.stickers.specs.declared.Four.{Four}
 use Rattle.stickers.specs.Distances.{apart, away, winner, nearest, leastOf, summed}
-use Rattle.stickers.specs.Choices.{tintCount, upward, from, others, tintOf, leastOfFour, sumOf, leastOfAll, sumOfAll}
+use Rattle.stickers.specs.Choices.{tintCount, upward, from, leastOfFour, sumOf, leastOfAll, sumOfAll}
 use Rattle.stickers.specs.Promise.{Ascending}
 use Rattle.stickers.specs.HowSummed.{AllCodes, CodePixel}
 

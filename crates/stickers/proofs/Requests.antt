@@ -1,6 +1,6 @@
 -- What is refused, step by step, and what an accepted request is.
 -- Assumes nothing.
-use Prim.Native.Nat.{ℕ, zero, suc, _+_, _-_, _*_, _/_, _≤_, _<_, min}
+use Prim.Native.Nat.{ℕ, zero, suc, _+_, _-_, _/_, _≤_, _<_}
 use mathlib.Core.Path.{_≡_, refl, sym, ap, _∙_}
 use mathlib.Core.Bool.{Bool, true, false, cond}
 use mathlib.Core.List.{List}
@@ -10,7 +10,7 @@ use native.Mathlib.Omega.{arith}
 use borrow.Author.Tests.{lt-ltb, le-ltb, eq-eqb, ne-eqb, ltb-false, eqb-true, eqb-false, not-false}
 use lib.Dec.{ltb, eqb}
 use lib.ListN.{length, getD}
-use Rattle.refusal.specs.Answers.{Verdict, sound, faulty, orElse, Said, accepted, refused, refusedAt, refusesOr, andThen}
+use Rattle.refusal.specs.Answers.{sound, orElse, Said, accepted, refused, refusedAt, refusesOr, andThen}
 use Rattle.refusal.proofs.Verdicts.{passed, both-sound, or-accepted, not-accepted, not-accepted-at}
 use Rattle.samples.specs.declared.Coding.the-variants.{Codes}
 use Rattle.samples.specs.Samples.{pixelSize, twoByTwo}
@@ -19,7 +19,7 @@ use Rattle.samples.proofs.Reading.{length-two, length-pixels}
 use Rattle.samples.proofs.Judging.{accepted-within, accepted-count}
 use Rattle.samples.proofs.Order.{counted-is}
 use Rattle.esrgb.specs.Depths.{greatest}
-use Rattle.stickers.specs.Choices.{tintCodes, choices, allowed}
+use Rattle.stickers.specs.Choices.{tintCodes, allowed}
 use Rattle.stickers.specs.Stickers.{pictureSays, codesSay, tintsSay, mostPixels, workFault, workSays, requestSays, pictureOf}
 use Rattle.stickers.specs.HowSummed.{AllCodes, TintCodes}
 use Rattle.stickers.proofs.InOrder.{all-counted}

@@ -1,11 +1,9 @@
 -- `stickers::add_block` meets its contract: one choice more at each turn.
 -- Assumes nothing.
 use Prim.Native.Nat.{_-_}
-use mathlib.Core.Path.{_≡_, refl, ap, _∙_}
+use mathlib.Core.Path.{refl}
 use native.Mathlib.Omega.{arith}
 use native.Mathlib.Nat.{le-refl}
-use denote.Ref.{now}
-use Rattle.stickers.specs.Promise.{Ascending}
 use Rattle.stickers.proofs.InOrder.{all-counted, ascending-at}
 use Rattle.stickers.proofs.Blocks.{Adding, adding-first, adding-more, adding-done}
 use borrow.Author.Needs.{needs}

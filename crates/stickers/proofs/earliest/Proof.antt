@@ -1,9 +1,8 @@
 -- `stickers::earliest` meets its contract: one choice more at each turn.
 -- Assumes nothing.
-use Prim.Native.Nat.{ℕ, _+_, _-_, _≤_, _<_}
-use mathlib.Core.Path.{_≡_, refl, sym, ap, _∙_}
+use Prim.Native.Nat.{ℕ, _-_, _≤_, _<_}
+use mathlib.Core.Path.{_≡_, sym, ap, _∙_}
 use native.Mathlib.Omega.{arith}
-use denote.Ref.{now}
 use lib.ListN.{length, getD}
 use Rattle.stickers.specs.declared.Four.{Four}
 use Rattle.stickers.specs.Choices.{choices, firstChoice}

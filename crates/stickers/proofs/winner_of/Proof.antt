@@ -1,6 +1,5 @@
 -- `stickers::winner_of` meets its contract: the higher number has to be nearer.
 -- Assumes nothing.
-use denote.Ref.{now}
 use native.Mathlib.Omega.{arith}
 use Rattle.stickers.proofs.Nearest.{winner-later, winner-earlier}
 use borrow.Author.Needs.{needs}

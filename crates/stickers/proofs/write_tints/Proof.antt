@@ -2,8 +2,7 @@
 -- Assumes nothing.
 use Prim.Native.Nat.{ℕ, suc, _+_, _-_, _≤_}
 use mathlib.Core.Path.{_≡_, refl, sym, ap, _∙_}
-use mathlib.Core.List.{List, _∷_, map}
-use mathlib.Core.Bool.{true}
+use mathlib.Core.List.{_∷_, map}
 use native.Mathlib.Omega.{arith}
 use denote.Ref.{now}
 use lib.ListN.{length, getD, drop, length-set}
@@ -11,7 +10,6 @@ use Rattle.numbers.proofs.Writing.{Written, written-more, written-all, take-one
 use Rattle.samples.specs.Samples.{noPixel, twoByTwo}
 use Rattle.stickers.specs.Choices.{tintOf}
 use Rattle.stickers.specs.Stickers.{pictureOf}
-use Rattle.stickers.specs.HowSummed.{CodePixel}
 use Rattle.stickers.proofs.Nearest.{pixel-codes}
 use borrow.Author.Needs.{needs}
 use Rattle.stickers.proofs.write_tints.Statement.{statement}

@@ -190,4 +190,6 @@ examples =
     ∷ bytesFor (tintsWith white) threePixels 40 (5 ∷ 9 ∷ 5 ∷ [])
     ∷ choiceFor (tintsWith (pixel 10 0 0)) threePixels 3 (answer (four 0 1 2 3) 40 3 10)
     ∷ bytesFor (tintsWith (pixel 10 0 0)) threePixels 3 (2 ∷ 2 ∷ 2 ∷ [])
+    ∷ choiceFor (tintsWith white) [] 7 (answer (four 0 1 2 3) 0 7 0)
+    ∷ choiceFor (tintsWith white) [] 1821 (answer (four 0 1 2 3) 0 1820 0)
     ∷ []

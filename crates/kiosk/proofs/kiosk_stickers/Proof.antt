@@ -54,8 +54,10 @@ returns c =
     let known = c .before .before .before .before .before in
     let choice = known .before .before .before .before in
     let a = choice .before .before .before .before .args in
+    let given =
     sticks-given (now (a .src)) (now (a .tints)) (a .budget) (now (a .dst)) (now (a .place)) (now (a .four)) (now (a .sums)) _
-    (chosen known) (choice .choose .ensures .1 .0) (toZ-pos w64 _ (few known))
+    (chosen known) (choice .choose .ensures .1 .0) (toZ-pos w64 _ (few known)) in
+    (given .0, (given .1 .0, given .1 .1))
 
 same-length-2 : tie.Need-same-length-2
 same-length-2 c = search needs

@@ -62,9 +62,10 @@ loop-again c =
     let a = s .args in
     let tints = now (a .tints) in
     let t = l .loop .t in
-    let distance = c .before .distance-to2 .ensures in (
+    let distance = c .before .distance-to2 .ensures in
+    let least : c .lesser .result ≡ min (l .loop .least) (c .before .distance-to2 .result) = c .lesser .ensures in (
       omega arith,
-      ap (λ m. leastOf tints (a .pixel) m (from (t + 1))) (c .lesser .ensures ∙ ap (min (l .loop .least)) distance)
+      ap (λ m. leastOf tints (a .pixel) m (from (t + 1))) (least ∙ ap (min (l .loop .least)) distance)
           ∙ sym (least-more tints (a .pixel) (l .loop .least) t (omega arith))
           ∙ l .loop .inv .1,
       filling-more tints (a .pixel) (a .k) (now (a .rows)) (l .loop .rows) t _ (s .pre .3) (s .pre .2) (omega arith) distance (l .loop .inv .2),

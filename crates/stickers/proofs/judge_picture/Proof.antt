@@ -1,14 +1,16 @@
 -- `stickers::judge_picture` meets its contract: the lengths, and then the samples.
 -- Assumes nothing.
 use mathlib.Core.Path.{_≡_, sym, ap, _∙_}
-use mathlib.Core.Bool.{true}
+use mathlib.Core.Bool.{true, false}
 use Prim.Native.Nat.{_/_}
 use denote.Ref.{now}
 use lib.ListN.{length}
 use Rattle.refusal.specs.Answers.{said, accepted, refusesOr}
 use Rattle.refusal.proofs.Verdicts.{not-accepted, not-accepted-at, first-stands}
-use Rattle.samples.specs.Samples.{pixelSize}
-use Rattle.samples.specs.Faults.{lengthFault}
+use Rattle.samples.specs.declared.Coding.the-variants.{Codes}
+use Rattle.samples.specs.Samples.{pixelSize, twoByTwo}
+use Rattle.samples.specs.Faults.{lengthFault, samplesSay}
+use Rattle.esrgb.specs.Depths.{greatest}
 use Rattle.stickers.proofs.Requests.{picture-11, picture-samples}
 use borrow.Author.Needs.{needs}
 use Rattle.stickers.proofs.judge_picture.Statement.{statement}
@@ -44,7 +46,9 @@ enum-told-2 c = search needs
 returns-2 : tie.Need-returns-2
 returns-2 c =
     let a = c .before .before .before .before .before .before .before .args in
-    c .judge .ensures ∙ sym (picture-samples (now (a .src)) (a .room) _ (counted (c .before .before .before)) (c .before .if1 .left))
+    let pixels = c .before .before .before .counted .given .0 .0 in
+    let judged : said (c .judge .result) ≡ samplesSay (Codes (greatest 12) false) (accepted pixels) 0 (twoByTwo (now (a .src))) = c .judge .ensures in
+    judged ∙ sym (picture-samples (now (a .src)) (a .room) pixels (counted (c .before .before .before)) (c .before .if1 .left))
 
 returns-3 : tie.Need-returns-3
 returns-3 c =

@@ -1,6 +1,6 @@
 -- `stickers::search` meets its contract: the sums start at 0, and the earliest smallest of them is chosen.
 -- Assumes nothing.
-use mathlib.Core.Path.{sym}
+use mathlib.Core.Path.{refl, sym}
 use denote.Ref.{now}
 use Rattle.stickers.specs.Choices.{sumOf}
 use Rattle.stickers.specs.Stickers.{pictureOf}
@@ -25,7 +25,7 @@ returns c =
     let s = c .before .before .before .before .before .before in
     let a = s .args in
     let picture = pictureOf (now (a .src)) in
-    choice-found (now (a .tints)) picture (a .limit) (c .before .earliest .result) _ (s .pre .3) (c .before .earliest .ensures (sumOf (now (a .tints)) picture) (sums .1)) (sums .0)
+    choice-found (now (a .tints)) picture (a .limit) (c .before .earliest .result) _ (s .pre .3) (c .before .earliest .ensures (sumOf (now (a .tints)) picture) (sums .1)) refl refl refl (sums .0)
 
 pub search-spec : {M : Type 1} → statement M
 search-spec = tie.close (tie.spec add-picture-requires earliest-requires returns)

@@ -1,6 +1,6 @@
 -- `stickers::tint_of` meets its contract: of the four, one after another.
 -- Assumes nothing.
-use mathlib.Core.Path.{ap, _∙_}
+use mathlib.Core.Path.{_≡_, ap, _∙_}
 use denote.Ref.{now}
 use Rattle.stickers.specs.Distances.{winner, nearest}
 use borrow.Author.Needs.{needs}
@@ -21,8 +21,10 @@ unfolding nearest
 returns c =
     let s = c .before .before .before in
     let wins = winner (now (s .args .tints)) (s .args .pixel) in
-    c .winner-of3 .ensures .0
-    ∙ ap (λ x. wins x (s .args .choice .fourth)) (c .before .winner-of2 .ensures .0 ∙ ap (λ x. wins x (s .args .choice .third)) (c .before .before .winner-of .ensures .0))
+    let two : c .before .before .winner-of .result ≡ wins (s .args .choice .first) (s .args .choice .second) = c .before .before .winner-of .ensures .0 in
+    let three : c .before .winner-of2 .result ≡ wins (c .before .before .winner-of .result) (s .args .choice .third) = c .before .winner-of2 .ensures .0 in
+    let four : c .winner-of3 .result ≡ wins (c .before .winner-of2 .result) (s .args .choice .fourth) = c .winner-of3 .ensures .0 in
+    four ∙ ap (λ x. wins x (s .args .choice .fourth)) (three ∙ ap (λ x. wins x (s .args .choice .third)) two)
 
 pub tint-of-spec : {M : Type 1} → statement M
 tint-of-spec =

@@ -50,7 +50,8 @@ loop-again c =
     let tints = map (tintOf (now (a .tints)) (a .choice)) in
     let picture = pictureOf (now (a .src)) in
     let i = l .loop .i in
-    let is : c .tint-of .result ≡ tintOf (now (a .tints)) (a .choice) (getD picture i noPixel) = c .tint-of .ensures ∙ ap (tintOf (now (a .tints)) (a .choice)) (c .before .pixel-at .ensures) in (
+    let pixel : c .before .pixel-at .result ≡ getD picture i noPixel = c .before .pixel-at .ensures in
+    let is : c .tint-of .result ≡ tintOf (now (a .tints)) (a .choice) (getD picture i noPixel) = c .tint-of .ensures ∙ ap (tintOf (now (a .tints)) (a .choice)) pixel in (
       omega arith,
       simp length-set (l .loop .inv .1),
       written-more tints picture noPixel i i (i + 1) (l .loop .dst) _ _ (omega arith)

@@ -6,7 +6,7 @@ use mathlib.Core.Bool.{Bool, true, false, false≢true, cond, not, _&&_, _||_}
 use mathlib.Core.List.{List, [], _∷_}
 use native.Mathlib.Omega.{arith}
 use native.Mathlib.Numerals.{add-one}
-use borrow.Author.Tests.{eq-eqb, ne-eqb, le-ltb, ltb-false, eqb-false, not-true}
+use borrow.Author.Tests.{eq-eqb, ne-eqb, lt-ltb, le-ltb, ltb-false, eqb-false, not-true}
 use lib.Bits.{bitOr}
 use lib.Dec.{ltb, eqb}
 use lib.ListN.{length, getD, drop}
@@ -184,19 +184,32 @@ within-by top at x count rest true t e =
     absurd (omega arith)
 within-by top at x count rest false t e = (ltb-false top x t, e)
 
+-- Of a code at any place, and what comes behind it.
+pub accepted-code :
+    (top k x at count : ℕ) (rest : Said) → decides (fault (Codes top false) k x) at rest ≡ accepted count → (x ≤ top) × (rest ≡ accepted count)
+unfolding fault
+accepted-code top k x at count rest e = within-by top at x count rest (ltb top x) refl e
+
 pub accepted-within :
     (top pixels count k : ℕ) (xs : List ℕ) → samplesSay (Codes top false) (accepted pixels) k xs ≡ accepted count → (i : ℕ) → getD xs i 0 ≤ top
-unfolding samplesSay fault
+unfolding samplesSay
 accepted-within top pixels count k [] e i = omega arith
-accepted-within top pixels count k (x ∷ xs) e zero =
-    within-by top (2 * k) x count (samplesSay (Codes top false) (accepted pixels) (k + 1) xs) (ltb top x) refl e .0
-accepted-within top pixels count k (x ∷ xs) e (suc i) =
-    accepted-within top pixels count (k + 1) xs (within-by top (2 * k) x count (samplesSay (Codes top false) (accepted pixels) (k + 1) xs) (ltb top x) refl e .1) i
+accepted-within top pixels count k (x ∷ xs) e zero = accepted-code top k x (2 * k) count _ e .0
+accepted-within top pixels count k (x ∷ xs) e (suc i) = accepted-within top pixels count (k + 1) xs (accepted-code top k x (2 * k) count _ e .1) i
 
 -- What is accepted is what would be without a look at the samples.
 pub accepted-count :
     (top pixels count k : ℕ) (xs : List ℕ) → samplesSay (Codes top false) (accepted pixels) k xs ≡ accepted count → pixels ≡ count
-unfolding samplesSay fault
+unfolding samplesSay
 accepted-count top pixels count k [] e = cc
-accepted-count top pixels count k (x ∷ xs) e =
-    accepted-count top pixels count (k + 1) xs (within-by top (2 * k) x count (samplesSay (Codes top false) (accepted pixels) (k + 1) xs) (ltb top x) refl e .1)
+accepted-count top pixels count k (x ∷ xs) e = accepted-count top pixels count (k + 1) xs (accepted-code top k x (2 * k) count _ e .1)
+
+-- What is said of a code, by whether it is above the greatest.
+module _ (top k x at : ℕ) (rest : Said) where
+  pub code-refused : top < x → decides (fault (Codes top false) k x) at rest ≡ refusedAt 12 at
+  unfolding fault
+  code-refused h = rw (lt-ltb top x h) refl
+
+  pub code-passes : x ≤ top → decides (fault (Codes top false) k x) at rest ≡ rest
+  unfolding fault
+  code-passes h = rw (le-ltb top x h) refl

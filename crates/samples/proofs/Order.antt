@@ -68,19 +68,31 @@ pub counted-is :
     → (lengthFault wide len ≡ sound) × (accepted (len / pixelSize wide) ≡ accepted pixels)
 counted-is wide len pixels counted = or-accepted (lengthFault wide len) _ pixels counted
 
-module _ (wideIn wideOut : Bool) (len room pixels : ℕ) (samples : Said) (counted : refusesOr (lengthFault wideIn len) (accepted (len / pixelSize wideIn)) ≡ accepted pixels) where
-  room-decides : inOrder true wideIn wideOut len room samples ≡ refusesOr (roomFault (pixelSize wideOut * pixels) room) samples
-  room-decides =
-      let told = counted-is wideIn len pixels counted .1 in
-      let is : len / pixelSize wideIn ≡ pixels = cc in
-      ap (λ v. refusesOr (orElse v (roomFault (pixelSize wideOut * (len / pixelSize wideIn)) room)) samples) (counted-is wideIn len pixels counted .0)
-      ∙ ap (λ n. refusesOr (roomFault (pixelSize wideOut * n) room) samples) is
+-- What so many pixels need is a function of their number, so that this serves any kind of result.
+module _
+    (wide : Bool) (len room pixels : ℕ) (needed : ℕ → ℕ) (samples : Said)
+    (counted : refusesOr (lengthFault wide len) (accepted (len / pixelSize wide)) ≡ accepted pixels) where
+  abbrev lengthsSay : Said
+  lengthsSay = refusesOr (orElse (lengthFault wide len) (roomFault (needed (len / pixelSize wide)) room)) samples
 
-  pub says-11 : eqb room (pixelSize wideOut * pixels) ≡ false → inOrder true wideIn wideOut len room samples ≡ refused 11
+  room-decides : lengthsSay ≡ refusesOr (roomFault (needed pixels) room) samples
+  room-decides =
+      let told = counted-is wide len pixels counted .1 in
+      let is : len / pixelSize wide ≡ pixels = cc in
+      ap (λ v. refusesOr (orElse v (roomFault (needed (len / pixelSize wide)) room)) samples) (counted-is wide len pixels counted .0)
+      ∙ ap (λ n. refusesOr (roomFault (needed n) room) samples) is
+
+  pub says-11 : eqb room (needed pixels) ≡ false → lengthsSay ≡ refused 11
   says-11 e = room-decides ∙ ap (λ b. refusesOr (cond (not b) (faulty 11) sound) samples) e
 
-  pub says-rest : eqb room (pixelSize wideOut * pixels) ≡ true → inOrder true wideIn wideOut len room samples ≡ samples
+  pub says-rest : eqb room (needed pixels) ≡ true → lengthsSay ≡ samples
   says-rest e = room-decides ∙ ap (λ b. refusesOr (cond (not b) (faulty 11) sound) samples) e
+
+-- Where a part of a pixel is left over, the room does not matter.
+pub says-16 :
+    (wideIn wideOut : Bool) (len room : ℕ) (samples : Said) → len % sampleSize wideIn ≡ 0 → (len % pixelSize wideIn ≡ 0 → ⊥)
+    → inOrder true wideIn wideOut len room samples ≡ refused 16
+says-16 wideIn wideOut len room samples whole h = rw (length-16 wideIn len whole h) refl
 
 -- What exact lengths lead to.
 pub says-samples :

@@ -81,19 +81,14 @@ module _ (sum : Four → ℕ) (limit : ℕ) (most : limit ≤ length choices) wh
       let end : drop k (lookedAt limit) ≡ [] = ap (λ i. drop i (lookedAt limit)) (e ∙ sym (looked-length limit most)) ∙ drop-length (lookedAt limit) in
       record { four = sym (r .found ∙ ap (bestFrom sum (top .four)) end); summed = r .summed }
 
-choice-is :
-    (four four′ : Four) (sum sum′ looked looked′ least least′ : ℕ) → four ≡ four′ → sum ≡ sum′ → looked ≡ looked′ → least ≡ least′
-    → _≡_ {A = Choice} (record { four = four; sum = sum; looked = looked; least = least }) (record { four = four′; sum = sum′; looked = looked′; least = least′ })
-choice-is four four′ sum sum′ looked looked′ least least′ e f g h = cc
-
--- What the search gives, part by part.
+-- What the search is to give.
 pub choice-found :
-    (tints : List ℕ) (ps : List Pixel) (limit : ℕ) (top : Summed) (choice : Choice) → limit ≤ length choices → BestOf (sumOf tints ps) limit top
-    → choice .four ≡ top .four → choice .sum ≡ top .sum → choice .looked ≡ limit → choice .least ≡ sumOfAll tints ps → choice ≡ choiceOf tints ps limit
+    (tints : List ℕ) (ps : List Pixel) (limit : ℕ) (top : Summed) (least : ℕ) → limit ≤ length choices → BestOf (sumOf tints ps) limit top
+    → least ≡ sumOfAll tints ps → choiceOf tints ps limit ≡ record { four = top .four; sum = top .sum; looked = limit; least = least }
 unfolding choiceOf chosen
-choice-found tints ps limit top choice h b four sum looked least =
+choice-found tints ps limit top least h b e =
     let all : limit ≡ allowed limit = omega arith in
-    choice-is _ _ _ _ _ _ _ _ (four ∙ b .four) (sum ∙ b .summed ∙ ap (sumOf tints ps) (b .four)) (looked ∙ all) least
+    cc (b .four, b .summed ∙ ap (sumOf tints ps) (b .four), all, e)
 
 -- ---- a budget for more choices than there are
 looked-allowed : (budget : ℕ) → lookedAt (allowed budget) ≡ lookedAt budget

@@ -2,7 +2,7 @@
 -- Assumes nothing.
 use Prim.Native.Nat.{ℕ, zero, suc, _+_, _-_, _/_, _≤_, _<_}
 use mathlib.Core.Path.{_≡_, refl, sym, ap, _∙_}
-use mathlib.Core.Bool.{Bool, true, false, cond}
+use mathlib.Core.Bool.{true, false, cond}
 use mathlib.Core.List.{List}
 use mathlib.Core.Logic.{⊎-elim}
 use native.Mathlib.Nat.{eq-or-lt-of-le}
@@ -16,8 +16,8 @@ use Rattle.samples.specs.declared.Coding.the-variants.{Codes}
 use Rattle.samples.specs.Samples.{pixelSize, twoByTwo}
 use Rattle.samples.specs.Faults.{lengthFault, roomFault, samplesSay}
 use Rattle.samples.proofs.Reading.{length-two, length-pixels}
-use Rattle.samples.proofs.Judging.{accepted-within, accepted-count}
-use Rattle.samples.proofs.Order.{counted-is}
+use Rattle.samples.proofs.Judging.{accepted-code, accepted-within, accepted-count, code-refused, code-passes}
+use Rattle.samples.proofs.Order.{counted-is, says-11, says-rest}
 use Rattle.esrgb.specs.Depths.{greatest}
 use Rattle.stickers.specs.Choices.{tintCodes, allowed}
 use Rattle.stickers.specs.Stickers.{pictureSays, codesSay, tintsSay, mostPixels, workFault, workSays, requestSays, pictureOf}
@@ -26,20 +26,12 @@ use Rattle.stickers.proofs.InOrder.{all-counted}
 
 -- ---- the picture, once its pixels are counted
 module _ (src : List ℕ) (room pixels : ℕ) (counted : refusesOr (lengthFault true (length src)) (accepted (length src / pixelSize true)) ≡ accepted pixels) where
-  room-decides : (samples : Said) → refusesOr (orElse (lengthFault true (length src)) (roomFault (length src / pixelSize true) room)) samples ≡ refusesOr (roomFault pixels room) samples
-  room-decides samples =
-      let is = counted-is true (length src) pixels counted in
-      let told = is .1 in
-      let e : length src / pixelSize true ≡ pixels = cc in
-      ap (λ v. refusesOr (orElse v (roomFault (length src / pixelSize true) room)) samples) (is .0) ∙ ap (λ n. refusesOr (roomFault n room) samples) e
-
   pub picture-11 : (room ≡ pixels → ⊥) → pictureSays src room ≡ refused 11
-  picture-11 h = room-decides _ ∙ rw (ne-eqb room pixels h) refl
+  picture-11 h = says-11 true (length src) room pixels (λ n. n) _ counted (ne-eqb room pixels h)
 
   pub picture-samples : room ≡ pixels → pictureSays src room ≡ samplesSay (Codes (greatest 12) false) (accepted pixels) 0 (twoByTwo src)
   picture-samples h =
-      room-decides _
-      ∙ rw (eq-eqb room pixels h) refl
+      says-rest true (length src) room pixels (λ n. n) _ counted (eq-eqb room pixels h)
       ∙ ap (λ done. samplesSay (Codes (greatest 12) false) done 0 (twoByTwo src)) (counted-is true (length src) pixels counted .1)
 
 -- ---- the tints
@@ -48,13 +40,13 @@ module _ (done : Said) (len : ℕ) (tints : List ℕ) where
   unfolding codesSay
   codes-next k h l =
       let e : tintCodes - k ≡ suc (tintCodes - (k + 1)) = omega arith in
-      rw (e, le-ltb (greatest 12) (getD tints k 0) l) refl
+      rw e (code-passes (greatest 12) k (getD tints k 0) (len + k) _ l)
 
   pub codes-above : (k : ℕ) → k < tintCodes → greatest 12 < getD tints k 0 → codesSay done len tints k (tintCodes - k) ≡ refusedAt 12 (len + k)
   unfolding codesSay
   codes-above k h l =
       let e : tintCodes - k ≡ suc (tintCodes - (k + 1)) = omega arith in
-      rw (e, lt-ltb (greatest 12) (getD tints k 0) l) refl
+      rw e (code-refused (greatest 12) k (getD tints k 0) (len + k) _ l)
 
   pub codes-end : (k : ℕ) → tintCodes ≤ k → codesSay done len tints k (tintCodes - k) ≡ done
   unfolding codesSay
@@ -132,15 +124,10 @@ module _ (src tints : List ℕ) (budget room : ℕ) where
   picture-decides s never e = sym (then-stands s _ never) ∙ ap (λ first. andThen first (workSays (length src) tints budget (length src / pixelSize true))) e
 
 -- ---- what accepted tints, budget and number of pixels are
-code-by :
-    (top at x n : ℕ) (rest : Said) (b : Bool) → ltb top x ≡ b → cond b (refusedAt 12 at) rest ≡ accepted n → (x ≤ top) × (rest ≡ accepted n)
-code-by top at x n rest true t e = absurd (not-accepted-at 12 at n e)
-code-by top at x n rest false t e = (ltb-false top x t, e)
-
 module _ (done : Said) (len : ℕ) (tints : List ℕ) (n : ℕ) where
   next-code : (k left : ℕ) → codesSay done len tints k (suc left) ≡ accepted n → (getD tints k 0 ≤ greatest 12) × (codesSay done len tints (k + 1) left ≡ accepted n)
   unfolding codesSay
-  next-code k left e = code-by (greatest 12) (len + k) (getD tints k 0) n (codesSay done len tints (k + 1) left) _ refl e
+  next-code k left e = accepted-code (greatest 12) k (getD tints k 0) (len + k) n _ e
 
   codes-done : (k left : ℕ) → codesSay done len tints k left ≡ accepted n → done ≡ accepted n
   unfolding codesSay

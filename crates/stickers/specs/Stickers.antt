@@ -6,11 +6,11 @@ use mathlib.Core.List.{List, map}
 use lib.Dec.{eqb, ltb}
 use lib.ListN.{length, getD}
 use Rattle.refusal.specs.Refusals.{numberOf}
-use Rattle.refusal.specs.Answers.{Verdict, sound, faulty, orElse, Said, accepted, refused, refusedAt, refusesOr, andThen}
+use Rattle.refusal.specs.Answers.{Verdict, sound, faulty, orElse, Said, accepted, refused, refusedAt, decides, refusesOr, andThen}
 use Rattle.samples.specs.declared.Coding.the-variants.{Codes}
 use Rattle.samples.specs.declared.Pixel.{Pixel}
 use Rattle.samples.specs.Samples.{pixelSize, twoByTwo, read}
-use Rattle.samples.specs.Faults.{lengthFault, roomFault, samplesSay}
+use Rattle.samples.specs.Faults.{fault, lengthFault, roomFault, samplesSay}
 use Rattle.esrgb.specs.Depths.{greatest}
 use Rattle.stickers.specs.declared.Choice.{Choice}
 use Rattle.stickers.specs.declared.Chosen.{Chosen}
@@ -23,11 +23,12 @@ pictureSays src room =
     refusesOr (orElse (lengthFault true (length src)) (roomFault (length src / pixelSize true) room))
     (samplesSay (Codes (greatest 12) false) (accepted (length src / pixelSize true)) 0 (twoByTwo src))
 
--- Rule 13.8, the tints: 12 for the first code above the greatest of those from number k on, as many as are left; or `done`. Places go on
--- from the picture's length, one to a code.
+-- Rule 13.8, the tints: of the codes from number k on, as many as are left, the first at fault, as a sample would be; or `done`. Places
+-- go on from the picture's length, one to a code.
 unfoldable pub codesSay : Said → ℕ → List ℕ → ℕ → ℕ → Said
 codesSay done len tints k zero = done
-codesSay done len tints k (suc left) = cond (ltb (greatest 12) (getD tints k 0)) (refusedAt 12 (len + k)) (codesSay done len tints (k + 1) left)
+codesSay done len tints k (suc left) =
+    decides (fault (Codes (greatest 12) false) k (getD tints k 0)) (len + k) (codesSay done len tints (k + 1) left)
 
 abbrev pub tintsSay : Said → ℕ → List ℕ → Said
 tintsSay done len tints = codesSay done len tints 0 tintCodes

@@ -1,7 +1,7 @@
 -- `samples::count_pixels` meets its contract: a length that is counted leaves the room to decide, and any other is refused before.
 -- Assumes nothing.
 use mathlib.Core.Path.{_≡_, sym, ap, _∙_}
-use Prim.Native.Nat.{_/_}
+use Prim.Native.Nat.{_/_, _*_}
 use borrow.Author.Tests.{not-true, not-false}
 use Rattle.refusal.specs.Answers.{said, accepted, refusesOr}
 use Rattle.refusal.proofs.Verdicts.{not-accepted, not-accepted-at, first-stands}
@@ -31,7 +31,7 @@ fits-requires c κs = search needs
 returns : tie.Need-returns
 returns c =
     let a = c .before .before .before .before .before .before .args in
-    sym (says-11 (a .wide-in) (a .wide-out) (a .len) (a .room) _ _ (counted (c .before .before .before)) (sym (c .before .fits2 .ensures) ∙ not-true _ (c .if1 .taken)))
+    sym (says-11 (a .wide-in) (a .len) (a .room) _ (λ n. pixelSize (a .wide-out) * n) _ (counted (c .before .before .before)) (sym (c .before .fits2 .ensures) ∙ not-true _ (c .if1 .taken)))
 
 enum-told : tie.Need-enum-told
 enum-told c = search needs
@@ -44,7 +44,7 @@ returns-2 c =
     let a = c .before .before .before .before .before .before .args in
     let told = counted (c .before .before .before) in
     sym (counted-is (a .wide-in) (a .len) _ told .1)
-    ∙ sym (says-rest (a .wide-in) (a .wide-out) (a .len) (a .room) _ _ told (sym (c .before .fits2 .ensures) ∙ not-false _ (c .if1 .left)))
+    ∙ sym (says-rest (a .wide-in) (a .len) (a .room) _ (λ n. pixelSize (a .wide-out) * n) _ told (sym (c .before .fits2 .ensures) ∙ not-false _ (c .if1 .left)))
 
 returns-3 : tie.Need-returns-3
 returns-3 c =

@@ -18,7 +18,11 @@ use Rattle.stickers.proofs.choose.Tie as tie
 says : (c : tie.After-judged) →
     let a = c .before .before .before .before .before .args in
     requestSays (now (a .src)) (now (a .tints)) (a .budget) (length (now (a .dst))) ≡ accepted (c .judged .given .0 .0)
-says c = sym (c .before .before .judge-request .ensures) ∙ ap said (c .judged .given .1)
+says c =
+    let judged = c .before .before in
+    let a = judged .before .before .before .args in
+    let is : said (judged .judge-request .result) ≡ requestSays (now (a .src)) (now (a .tints)) (a .budget) (length (now (a .dst))) = judged .judge-request .ensures in
+    sym is ∙ ap said (c .judged .given .1)
 
 sound : (c : tie.After-judged) →
     let a = c .before .before .before .before .before .args in

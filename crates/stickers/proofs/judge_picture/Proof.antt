@@ -3,6 +3,7 @@
 use mathlib.Core.Path.{_≡_, sym, ap, _∙_}
 use mathlib.Core.Bool.{true, false}
 use Prim.Native.Nat.{_/_}
+use native.Mathlib.Omega.{arith}
 use denote.Ref.{now}
 use lib.ListN.{length}
 use Rattle.refusal.specs.Answers.{said, accepted, refusesOr}
@@ -48,7 +49,7 @@ returns-2 c =
     let a = c .before .before .before .before .before .before .before .args in
     let pixels = c .before .before .before .counted .given .0 .0 in
     let judged : said (c .judge .result) ≡ samplesSay (Codes (greatest 12) false) (accepted pixels) 0 (twoByTwo (now (a .src))) = c .judge .ensures in
-    judged ∙ sym (picture-samples (now (a .src)) (a .room) pixels (counted (c .before .before .before)) (c .before .if1 .left))
+    judged ∙ sym (picture-samples (now (a .src)) (a .room) pixels (counted (c .before .before .before)) (omega (arith, c .before .if1 .left)))
 
 returns-3 : tie.Need-returns-3
 returns-3 c =

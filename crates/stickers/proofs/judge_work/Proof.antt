@@ -19,31 +19,31 @@ returns : tie.Need-returns
 returns c =
     let above = c .before in
     let a = above .before .before .args in
-    work-12 (length (now (a .src))) (now (a .tints)) (a .budget) (a .pixels) _ (above .first-above .ensures) (c .if1 .taken)
+    work-12 (length (now (a .src))) (now (a .tints)) (a .budget) (a .pixels) (above .first-above .result) (above .first-above .ensures) (omega (arith, c .if1 .taken))
 
 returns-2 : tie.Need-returns-2
 returns-2 c =
     let above = c .before .before in
     let a = above .before .before .args in
-    work-18 (length (now (a .src))) (now (a .tints)) (a .budget) (a .pixels) _ (above .first-above .ensures) (c .before .if1 .left) (c .if2 .taken)
+    work-18 (length (now (a .src))) (now (a .tints)) (a .budget) (a .pixels) (above .first-above .result) (above .first-above .ensures) (omega (arith, c .before .if1 .left)) (c .if2 .taken)
 
 returns-3 : tie.Need-returns-3
 returns-3 c =
     let above = c .before .before .before in
     let a = above .before .before .args in
-    work-19 (length (now (a .src))) (now (a .tints)) (a .budget) (a .pixels) _ (above .first-above .ensures) (c .before .before .if1 .left) (c .before .if2 .left) (c .if3 .taken)
+    work-19 (length (now (a .src))) (now (a .tints)) (a .budget) (a .pixels) (above .first-above .result) (above .first-above .ensures) (omega (arith, c .before .before .if1 .left)) (c .before .if2 .left) (omega (arith, c .if3 .taken))
 
 returns-4 : tie.Need-returns-4
 returns-4 c =
     let above = c .before .before .before .before in
     let a = above .before .before .args in
-    work-done (length (now (a .src))) (now (a .tints)) (a .budget) (a .pixels) _ (above .first-above .ensures) (c .before .before .before .if1 .left) (c .before .before .if2 .left) (c .before .if3 .left) _ (omega (arith, all-counted))
+    work-done (length (now (a .src))) (now (a .tints)) (a .budget) (a .pixels) (above .first-above .result) (above .first-above .ensures) (omega (arith, c .before .before .before .if1 .left)) (c .before .before .if2 .left) (omega (arith, c .before .if3 .left)) _ (omega (arith, all-counted))
 
 returns-5 : tie.Need-returns-5
 returns-5 c =
     let above = c .before .before .before .before in
     let a = above .before .before .args in
-    work-done (length (now (a .src))) (now (a .tints)) (a .budget) (a .pixels) _ (above .first-above .ensures) (c .before .before .before .if1 .left) (c .before .before .if2 .left) (c .before .if3 .left) _ (omega (arith, all-counted))
+    work-done (length (now (a .src))) (now (a .tints)) (a .budget) (a .pixels) (above .first-above .result) (above .first-above .ensures) (omega (arith, c .before .before .before .if1 .left)) (c .before .before .if2 .left) (omega (arith, c .before .if3 .left)) _ (omega (arith, all-counted))
 
 pub judge-work-spec : {M : Type 1} → statement M
 judge-work-spec =

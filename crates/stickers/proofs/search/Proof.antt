@@ -25,7 +25,9 @@ returns c =
     let s = c .before .before .before .before .before .before in
     let a = s .args in
     let picture = pictureOf (now (a .src)) in
-    choice-found (now (a .tints)) picture (a .limit) (c .before .earliest .result) _ (s .pre .3) (c .before .earliest .ensures (sumOf (now (a .tints)) picture) (sums .1)) refl refl refl (sums .0)
+    rw (choice-found (now (a .tints)) picture (a .limit) (c .before .earliest .result) (c .before .before .before .add-picture .result) (s .pre .3)
+    (c .before .earliest .ensures (sumOf (now (a .tints)) picture) (sums .1)) (sums .0))
+    refl
 
 pub search-spec : {M : Type 1} → statement M
 search-spec = tie.close (tie.spec add-picture-requires earliest-requires returns)

@@ -3,19 +3,16 @@
 use Prim.Native.Nat.{ℕ, zero, suc, _/_, _^_, _<_}
 use mathlib.Core.Path.{_≡_}
 use mathlib.Core.List.{List, [], _∷_}
-use lib.ListN.{getD, take}
+use lib.ListN.{take}
 use native.Mathlib.Omega.{arith}
 use native.Mathlib.Nat.{pow-suc, div-lt-iff-lt-mul}
-use Rattle.numbers.specs.Bytes.{littleEndian, lowBytes}
+use Rattle.numbers.specs.Bytes.{littleEndian, lowBytes, AllBytes}
 
 pub held : (k v : ℕ) → v < 256 ^ k → littleEndian (lowBytes k v) ≡ v
 held zero v h = omega arith
 held (suc k) v h =
     let above : v / 256 < 256 ^ k = div-lt-iff-lt-mul {k = 256} (omega arith) .1 (rw pow-suc at h) in
     omega (arith, held k (v / 256) above)
-
-abbrev pub AllBytes : List ℕ → Type 0
-AllBytes bytes = (i : ℕ) → getD bytes i 0 < 256
 
 pub number-below : (k : ℕ) (bytes : List ℕ) → AllBytes bytes → littleEndian (take k bytes) < 256 ^ k
 number-below zero bytes all = omega arith

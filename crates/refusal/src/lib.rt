@@ -44,6 +44,10 @@ pub enum Refusal {
     NoBudget,
     // 19: more pixels than a sticker has.
     TooManyPixels,
+    // 20: a strided header that says another size of its records than theirs.
+    WrongRecordSize,
+    // 21: a stride below a row's own bytes, or gaps between rows where none are taken.
+    WrongStride,
 }
 
 // The number of a refusal.
@@ -70,6 +74,8 @@ pub fn number(refusal: Refusal) -> u8
         Refusal::NotFinite => 17,
         Refusal::NoBudget => 18,
         Refusal::TooManyPixels => 19,
+        Refusal::WrongRecordSize => 20,
+        Refusal::WrongStride => 21,
     }
 }
 

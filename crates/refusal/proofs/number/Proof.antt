@@ -63,10 +63,18 @@ returns-18 c = sym (ap numberOf (c .enum-told18 .given .1))
 returns-19 : tie.Need-returns-19
 returns-19 c = sym (ap numberOf (c .enum-told19 .given .1))
 
+returns-20 : tie.Need-returns-20
+returns-20 c = sym (ap numberOf (c .enum-told20 .given .1))
+
+returns-21 : tie.Need-returns-21
+returns-21 c = sym (ap numberOf (c .enum-told21 .given .1))
+
 pub number-spec : {M : Type 1} → statement M
 number-spec =
     tie.close
     (tie.spec
+    (λ c. search needs)
+    (λ c. search needs)
     (λ c. search needs)
     (λ c. search needs)
     (λ c. search needs)
@@ -104,4 +112,6 @@ number-spec =
     returns-16
     returns-17
     returns-18
-    returns-19)
+    returns-19
+    returns-20
+    returns-21)

@@ -11,8 +11,8 @@ use Rattle.frames.specs.declared.Stepped.{Stepped}
 use Rattle.spool.specs.Find.{findSaid, findSays, IsPixels}
 use Rattle.spool.specs.Open.{OpenSaid, opens, refusesFile, openSays}
 
--- The number after a step: it stays if the file does not open or has no such frame, and else grows by one, whatever Find says of the
--- frame.
+-- The number after a step: it stays if the file does not open (1 to 4, and 20) or has no such frame (5), and else grows by one, whatever
+-- Find says of the frame (6, 7, 21 or 8).
 abbrev pub movedBy : OpenSaid → ℕ → ℕ
 movedBy (opens count shop table) k = cond (ltb k count) (k + 1) k
 movedBy (refusesFile n) k = k

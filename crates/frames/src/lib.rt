@@ -9,7 +9,8 @@ ghost use mathlib.Core.Path.{_≡_};
 ghost use Rattle.spool.specs.Find.{findSaid, findSays};
 ghost use Rattle.frames.specs.Walk.{nextNumber, started, IsStep};
 
-// The number after a step: it stays if the file does not open or has no such frame.
+// The number after a step: it stays if the file does not open, 20 included, or has no such frame; any
+// other refusal, 21 too, is of the frame alone, so that the walk moves on.
 fn next_number(file: &[u8], number: usize) -> usize
     ensures { λ r. ⌜ r ≡ nextNumber (now (file .entry)) number ⌝ }
 {

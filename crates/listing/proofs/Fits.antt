@@ -9,8 +9,8 @@ use mathlib.Core.List.{List, [], _∷_, _++_}
 use lib.Dec.{ltb}
 use lib.ListN.{length, take, length-append}
 use borrow.Author.Tests.{ltb-true, ltb-false}
-use Rattle.numbers.proofs.Bytes.{AllBytes}
-use Rattle.records.specs.Layout.{headerIn}
+use Rattle.numbers.specs.Bytes.{AllBytes}
+use Rattle.records.specs.Layout.{headerOf}
 use Rattle.records.proofs.Small.{Small}
 use Rattle.records.specs.Faults.{frameLimit}
 use Rattle.refusal.proofs.Verdicts.{TwoDigits}
@@ -35,15 +35,16 @@ decimal-short (suc d) n h = by-test (ltb n 10) refl (decimal-short d (n / 10)) w
 
 -- The answers of Find that a file of bytes gives.
 abbrev Short : FindSaid → Type 0
-Short (finds r) = Small r
-Short (refusesFrame n r) = TwoDigits (faulty n)
+Short (finds s) = Small (s .frame)
+Short (refusesFrame n s) = TwoDigits (faulty n)
 
 -- No line is longer.
 abbrev lineRoom : ℕ
 lineRoom = 52
 
 line-short : (k : ℕ) (s : FindSaid) → k < frameLimit → Short s → length (line k s) ≤ lineRoom
-line-short k (finds r) below small =
+line-short k (finds s) below small =
+    let r = s .frame in
     let number = decimal-short 2 k (omega arith) in
     let order = decimal-short 9 (r .order) (omega (arith, small 6)) in
     let kind = decimal-short 2 (r .kind) (omega (arith, small 3)) in
@@ -53,13 +54,13 @@ line-short k (finds r) below small =
     let copies = decimal-short 4 (r .copies) (omega (arith, small 5)) in
     let offset = decimal-short 9 (r .offset) (omega (arith, small 0)) in
     simp length-append (omega (arith, number, order, kind, bits, width, height, copies, offset))
-line-short k (refusesFrame n r) below small =
+line-short k (refusesFrame n s) below small =
     let number = decimal-short 2 k (omega arith) in
     let why = decimal-short 1 n (omega (arith, small)) in
     simp length-append (omega (arith, number, why))
 
 found-short : (file : List ℕ) → AllBytes file → (k : ℕ) → Short (findSays file k)
-found-short file all k = by-fault (findFault file k) (find-fault-short file k) where
+found-short file all k = by-fault (findFault true file k) (find-fault-short true file k) where
   by-fault : (v : Verdict) → TwoDigits v → Short (findBy v (recordAt file k))
   by-fault sound h = record-at-small file all k
   by-fault (faulty n) h = h
@@ -74,10 +75,10 @@ lines-short file all (suc left) k h =
 
 pub listing-short : (file : List ℕ) → AllBytes file → length (listing file) ≤ listingRoom
 listing-short file all = by-length (ltb inputLimit (length file)) where
-  by-fault : (v : Verdict) → openFault file ≡ v → TwoDigits v → length (spoolText file (openBy v (headerIn file))) ≤ listingRoom
+  by-fault : (v : Verdict) → openFault file ≡ v → TwoDigits v → length (spoolText file (openBy v (headerOf file))) ≤ listingRoom
   by-fault sound e h =
       let few = open-file file e .few in
-      simp length-append (omega (arith, few, lines-short file all (headerIn file .count) 0 (omega arith)))
+      simp length-append (omega (arith, few, lines-short file all (headerOf file .count) 0 (omega arith)))
   by-fault (faulty n) e h = simp length-append (omega (arith, decimal-short 1 n (omega (arith, h))))
 
   by-length : (t : Bool) → length (cond t (refusedWord ++ fields (15 ∷ [])) (spoolText file (openSays file))) ≤ listingRoom

@@ -27,8 +27,9 @@ fields (n ∷ m ∷ ns) = decimal n ++ (32 ∷ fields (m ∷ ns))
 
 -- Rule 9.2: the line of frame k, found or refused.
 abbrev pub line : ℕ → FindSaid → List ℕ
-line k (finds r) = fields (k ∷ r .order ∷ r .kind ∷ r .bits ∷ r .width ∷ r .height ∷ r .copies ∷ r .offset ∷ [])
-line k (refusesFrame n r) = decimal k ++ (32 ∷ (refusedWord ++ fields (n ∷ [])))
+line k (finds s) =
+    fields (k ∷ s .frame .order ∷ s .frame .kind ∷ s .frame .bits ∷ s .frame .width ∷ s .frame .height ∷ s .frame .copies ∷ s .frame .offset ∷ [])
+line k (refusesFrame n s) = decimal k ++ (32 ∷ (refusedWord ++ fields (n ∷ [])))
 
 -- The lines of so many frames, the first of which is frame k.
 unfoldable pub lines : List ℕ → ℕ → ℕ → List ℕ

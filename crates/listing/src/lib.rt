@@ -2,7 +2,7 @@
 // of the listing for any file; it asks nothing of a caller. A buffer that is too small gets as much of
 // the text as it has room for.
 use frames::step_from;
-use records::FrameRecord;
+use records::StridedRecord;
 use refusal::Refusal;
 use refusal::number;
 use spool::Found;
@@ -13,7 +13,7 @@ ghost use mathlib.Core.List.{[], _∷_, _++_};
 ghost use Prim.Native.Nat.{_+_, _≤_};
 ghost use lib.ListN.{length, take};
 ghost use Rattle.refusal.specs.Answers.{sound};
-ghost use Rattle.records.specs.Layout.{headerIn};
+ghost use Rattle.records.specs.Layout.{headerOf};
 ghost use Rattle.spool.specs.Open.{openFault};
 ghost use Rattle.spool.specs.Find.{finds, findSaid};
 ghost use Rattle.listing.specs.Text.{decimal, put, putText};
@@ -83,9 +83,10 @@ fn put_fields(out: &mut [u8], at: usize, numbers: &[usize]) -> usize
 }
 
 // The line of a frame that is found.
-fn put_frame(out: &mut [u8], at: usize, number: usize, frame: FrameRecord) -> usize
-    ensures { λ r. ⌜ record { bytes = now (out .exit); at = r } ≡ putText (record { bytes = now (out .entry); at = at }) (line number (finds frame)) ⌝ }
+fn put_frame(out: &mut [u8], at: usize, number: usize, strided: StridedRecord) -> usize
+    ensures { λ r. ⌜ record { bytes = now (out .exit); at = r } ≡ putText (record { bytes = now (out .entry); at = at }) (line number (finds strided)) ⌝ }
 {
+    let frame = strided.frame;
     let numbers = [
         number,
         frame.order as usize,
@@ -112,7 +113,7 @@ fn put_line(out: &mut [u8], at: usize, frame: usize, found: Found) -> usize
     ensures { λ r. ⌜ record { bytes = now (out .exit); at = r } ≡ putText (record { bytes = now (out .entry); at = at }) (line frame (findSaid found)) ⌝ }
 {
     match found {
-        Found::Frame(record) => put_frame(out, at, frame, record),
+        Found::Frame(strided) => put_frame(out, at, frame, strided),
         Found::Refused(why) => {
             let next = put_field(out, at, frame, b' ');
             put_refusal(out, next, number(why))
@@ -122,7 +123,7 @@ fn put_line(out: &mut [u8], at: usize, frame: usize, found: Found) -> usize
 
 // The lines of the frames of an open spool, one step of the walker after another.
 fn put_lines(file: &[u8], count: usize, out: &mut [u8], at: usize) -> usize
-    requires { ⌜ (openFault (now file) ≡ sound) × (count ≡ headerIn (now file) .count) ⌝ }
+    requires { ⌜ (openFault (now file) ≡ sound) × (count ≡ headerOf (now file) .count) ⌝ }
     ensures { λ r. ⌜ record { bytes = now (out .exit); at = r } ≡ putText (record { bytes = now (out .entry); at = at }) (lines (now (file .entry)) count 0) ⌝ }
 {
     let mut next = at;

@@ -1,3 +1,5 @@
 pub mod Fields
+pub mod Layouts
 pub mod Sizes
 pub mod Small
+pub mod Strides

@@ -1,12 +1,13 @@
 -- What the records of a spool may say (rules 7.3 and 7.4), and how many there may be.
 -- Assumes nothing.
-use Prim.Native.Nat.{ℕ, _*_}
-use mathlib.Core.Bool.{Bool, false, cond, not, _||_}
+use Prim.Native.Nat.{ℕ}
+use mathlib.Core.Bool.{Bool, false, cond, not, _||_, _&&_}
 use lib.Dec.{eqb, ltb}
 use Rattle.refusal.specs.Answers.{Verdict, sound, faulty}
 use Rattle.esrgb.specs.Depths.{offered}
-use Rattle.samples.specs.Samples.{isWide, pixelSize}
 use Rattle.records.specs.declared.FrameRecord.{FrameRecord}
+use Rattle.records.specs.declared.StridedRecord.{StridedRecord}
+use Rattle.records.specs.Pixels.{rowBytes, hasGaps}
 
 -- Rules 7.5 and 7.8, 3: the most frames that a spool has.
 abbrev pub frameLimit : ℕ
@@ -24,13 +25,14 @@ sideLimit = 8192
 abbrev pub badSide : ℕ → Bool
 badSide side = eqb side 0 || ltb sideLimit side
 
--- The refusal of a record by itself: 6, then 7.
+-- The refusal of a record by kind, bits and size: 6, then 7.
 unfoldable pub recordFault : FrameRecord → Verdict
 recordFault r =
     cond (not (isPair (r .kind) (r .bits))) (faulty 6)
     (cond (badSide (r .width) || badSide (r .height)) (faulty 7)
     sound)
 
--- Rule 7.4: the bytes of a frame's pixels.
-abbrev pub pixelBytes : FrameRecord → ℕ
-pixelBytes r = r .width * r .height * pixelSize (isWide (r .bits))
+-- The refusal of a record by its stride, 21: it is below a row's own bytes, or, where gaps are not taken, there is one.
+unfoldable pub strideFault : Bool → StridedRecord → Verdict
+strideFault gapsTaken s =
+    cond (ltb (s .stride) (rowBytes (s .frame)) || (not gapsTaken && hasGaps s)) (faulty 21) sound

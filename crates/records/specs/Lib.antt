@@ -1,3 +1,4 @@
 pub mod Fields
+pub mod Pixels
 pub mod Layout
 pub mod Faults

@@ -1,6 +1,6 @@
-// The header and the records of a spool file: their numbers, read from bytes and written as bytes,
-// and what a record may say. It promises every number and every byte of rule 7.2's layout, and the
-// refusals of a record by rules 7.3 and 7.4; it asks nothing of a caller.
+// The header and the records of a spool file, in either of its layouts: their numbers, read from bytes
+// and written as bytes, and what a record may say. It promises every number and every byte of rule 7.2's
+// layouts, and the refusals of a record by rules 7.3 and 7.4; it asks nothing of a caller.
 use esrgb::Offer;
 use numbers::four_bytes;
 use numbers::from_four;
@@ -15,13 +15,22 @@ ghost use lib.ListN.{length, take, drop};
 ghost use Rattle.esrgb.specs.Depths.{offered};
 ghost use Rattle.numbers.specs.Bytes.{littleEndian};
 ghost use Rattle.refusal.specs.Answers.{verdict};
-ghost use Rattle.records.specs.Layout.{recordSize, noRecord, withOffset, recordIn, headerBytes, recordBytes, ReadsHeader, ReadsRecord};
-ghost use Rattle.records.specs.Faults.{isPair, badSide, recordFault, pixelBytes};
+ghost use Rattle.records.specs.declared.Layout.the-variants.{Plain, Strided};
+ghost use Rattle.records.specs.Layout.{headerSize, recordSize, firstNumber, layoutOf, otherLayout, noRecord, withOffset, headerIn, frameIn, strideIn, recordIn, headerBytes, recordBytes, ReadsHeader, ReadsRecord};
+ghost use Rattle.records.specs.Pixels.{rowBytes, pixelBytes, spanBytes, hasGaps, packed};
+ghost use Rattle.records.specs.Faults.{isPair, badSide, recordFault, strideFault};
 
-// The bytes of a header and of a record.
-pub const HEADER_SIZE: usize = 12;
+// The bytes of a header and of a record, in the plain layout and in the strided one.
+const HEADER_SIZE: usize = 12;
 
 pub const RECORD_SIZE: usize = 16;
+
+const STRIDED_HEADER_SIZE: usize = 16;
+
+pub const STRIDED_RECORD_SIZE: usize = 20;
+
+// What the first two bytes of a strided spool say. No plain spool that opens has so many frames.
+const STRIDED_MARK: u16 = 65535;
 
 // The most frames that a spool has.
 pub const FRAME_LIMIT: usize = 255;
@@ -29,12 +38,19 @@ pub const FRAME_LIMIT: usize = 255;
 // The greatest width and height of a frame.
 const SIDE_LIMIT: u16 = 8192;
 
-// The header's numbers, in the order in which they stand in the file.
+// The two layouts of a spool. The records of a strided one say how far it is from row to row.
+pub enum Layout {
+    Plain,
+    Strided,
+}
+
+// The header's numbers. `size` is that of a record, which a plain header does not say.
 pub struct Header {
     pub count: u16,
     pub shop: u16,
     pub table: u32,
     pub length: u32,
+    pub size: u16,
 }
 
 // A frame's record, its numbers in the order in which they stand in the file.
@@ -49,18 +65,27 @@ pub struct FrameRecord {
     pub order: u32,
 }
 
+// A record with its stride, document 02's row step: the bytes from the start of a row to that of the next.
+pub struct StridedRecord {
+    pub frame: FrameRecord,
+    pub stride: u32,
+}
+
 // The record of zeros.
-pub fn no_record() -> FrameRecord
+pub fn no_record() -> StridedRecord
     ensures { λ r. ⌜ r ≡ noRecord ⌝ }
 {
-    FrameRecord {
-        offset: 0,
-        width: 0,
-        height: 0,
-        kind: 0,
-        bits: 0,
-        copies: 0,
-        order: 0,
+    StridedRecord {
+        frame: FrameRecord {
+            offset: 0,
+            width: 0,
+            height: 0,
+            kind: 0,
+            bits: 0,
+            copies: 0,
+            order: 0,
+        },
+        stride: 0,
     }
 }
 
@@ -71,6 +96,45 @@ pub fn with_offset(offset: u32, frame: FrameRecord) -> FrameRecord
     let mut placed = frame;
     placed.offset = offset;
     placed
+}
+
+// ---- the layouts
+
+pub fn other_layout(layout: Layout) -> Layout
+    ensures { λ r. ⌜ r ≡ otherLayout layout ⌝ }
+{
+    match layout {
+        Layout::Plain => Layout::Strided,
+        Layout::Strided => Layout::Plain,
+    }
+}
+
+pub fn header_size(layout: Layout) -> usize
+    ensures { λ r. ⌜ r ≡ headerSize layout ⌝ }
+{
+    match layout {
+        Layout::Plain => HEADER_SIZE,
+        Layout::Strided => STRIDED_HEADER_SIZE,
+    }
+}
+
+pub fn record_size(layout: Layout) -> usize
+    ensures { λ r. ⌜ r ≡ recordSize layout ⌝ }
+{
+    match layout {
+        Layout::Plain => RECORD_SIZE,
+        Layout::Strided => STRIDED_RECORD_SIZE,
+    }
+}
+
+// The first number of a header with so many frames.
+fn first_number(layout: Layout, count: u16) -> u16
+    ensures { λ r. ⌜ r ≡ firstNumber layout count ⌝ }
+{
+    match layout {
+        Layout::Plain => count,
+        Layout::Strided => STRIDED_MARK,
+    }
 }
 
 // ---- from bytes
@@ -90,6 +154,40 @@ fn four_at(bytes: &[u8], at: usize) -> u32
     from_four(bytes[at], bytes[at + 1], bytes[at + 2], bytes[at + 3])
 }
 
+// The layout of a file.
+pub fn layout_of(file: &[u8]) -> Layout
+    ensures { λ r. ⌜ r ≡ layoutOf (now (file .entry)) ⌝ }
+{
+    if file.len() < 2 {
+        return Layout::Plain;
+    }
+    if two_at(file, 0) == STRIDED_MARK {
+        return Layout::Strided;
+    }
+    Layout::Plain
+}
+
+// The frame count of a header, and the size of its records.
+fn count_in(layout: Layout, bytes: &[u8]) -> u16
+    requires { ⌜ headerSize layout ≤ length (now bytes) ⌝ }
+    ensures { λ r. ⌜ r ≡ headerIn layout (now (bytes .entry)) .count ⌝ }
+{
+    match layout {
+        Layout::Plain => two_at(bytes, 0),
+        Layout::Strided => two_at(bytes, 12),
+    }
+}
+
+fn size_in(layout: Layout, bytes: &[u8]) -> u16
+    requires { ⌜ headerSize layout ≤ length (now bytes) ⌝ }
+    ensures { λ r. ⌜ r ≡ headerIn layout (now (bytes .entry)) .size ⌝ }
+{
+    match layout {
+        Layout::Plain => RECORD_SIZE as u16,
+        Layout::Strided => two_at(bytes, 14),
+    }
+}
+
 // A header that was asked for, or too few bytes for one.
 pub enum HeaderRead {
     Header(Header),
@@ -97,24 +195,25 @@ pub enum HeaderRead {
 }
 
 // The header at the start of some bytes.
-pub fn read_header(bytes: &[u8]) -> HeaderRead
-    ensures { λ r. ⌜ ReadsHeader (now (bytes .entry)) r ⌝ }
+pub fn read_header(layout: Layout, bytes: &[u8]) -> HeaderRead
+    ensures { λ r. ⌜ ReadsHeader layout (now (bytes .entry)) r ⌝ }
 {
-    if bytes.len() < HEADER_SIZE {
+    if bytes.len() < header_size(layout) {
         return HeaderRead::Short;
     }
     HeaderRead::Header(Header {
-        count: two_at(bytes, 0),
+        count: count_in(layout, bytes),
         shop: two_at(bytes, 2),
         table: four_at(bytes, 4),
         length: four_at(bytes, 8),
+        size: size_in(layout, bytes),
     })
 }
 
-// The record at the start of some bytes.
-fn record_in(bytes: &[u8]) -> FrameRecord
-    requires { ⌜ recordSize ≤ length (now bytes) ⌝ }
-    ensures { λ r. ⌜ r ≡ recordIn (now (bytes .entry)) ⌝ }
+// The record at the start of some bytes, but for its stride, which is the same in both layouts.
+fn frame_in(bytes: &[u8]) -> FrameRecord
+    requires { ⌜ recordSize Plain ≤ length (now bytes) ⌝ }
+    ensures { λ r. ⌜ r ≡ frameIn (now (bytes .entry)) ⌝ }
 {
     FrameRecord {
         offset: four_at(bytes, 0),
@@ -127,37 +226,62 @@ fn record_in(bytes: &[u8]) -> FrameRecord
     }
 }
 
+// The stride of that record: where the layout has none, rows have no gaps.
+fn stride_in(layout: Layout, bytes: &[u8], frame: FrameRecord) -> u32
+    requires { ⌜ recordSize layout ≤ length (now bytes) ⌝ }
+    ensures { λ r. ⌜ r ≡ strideIn layout (now (bytes .entry)) frame ⌝ }
+{
+    match layout {
+        Layout::Plain => row_bytes(frame) as u32,
+        Layout::Strided => four_at(bytes, 16),
+    }
+}
+
+// The record at the start of some bytes.
+fn record_in(layout: Layout, bytes: &[u8]) -> StridedRecord
+    requires { ⌜ recordSize layout ≤ length (now bytes) ⌝ }
+    ensures { λ r. ⌜ r ≡ recordIn layout (now (bytes .entry)) ⌝ }
+{
+    let frame = frame_in(bytes);
+    let stride = stride_in(layout, bytes, frame);
+    StridedRecord { frame, stride }
+}
+
 // A record that was asked for, or too few bytes for one.
 pub enum RecordRead {
-    Record(FrameRecord),
+    Record(StridedRecord),
     Short,
 }
 
 // The record at a place of some bytes.
-pub fn read_record(bytes: &[u8], at: usize) -> RecordRead
-    ensures { λ r. ⌜ ReadsRecord (now (bytes .entry)) at r ⌝ }
+pub fn read_record(layout: Layout, bytes: &[u8], at: usize) -> RecordRead
+    ensures { λ r. ⌜ ReadsRecord layout (now (bytes .entry)) at r ⌝ }
 {
-    if bytes.len() < RECORD_SIZE {
+    let size = record_size(layout);
+    if bytes.len() < size {
         return RecordRead::Short;
     }
-    if bytes.len() - RECORD_SIZE < at {
+    if bytes.len() - size < at {
         return RecordRead::Short;
     }
-    RecordRead::Record(record_in(&bytes[at..]))
+    RecordRead::Record(record_in(layout, &bytes[at..]))
 }
 
 // ---- as bytes
 
-pub fn header_bytes(header: Header) -> [u8; HEADER_SIZE]
-    ensures { λ r. ⌜ r ≡ headerBytes header ⌝ }
+// The bytes of a strided header, or, where the layout is plain, a plain header's and four more.
+pub fn header_bytes(layout: Layout, header: Header) -> [u8; STRIDED_HEADER_SIZE]
+    ensures { λ r. ⌜ take (headerSize layout) r ≡ headerBytes layout header ⌝ }
 {
-    let count = two_bytes(header.count);
+    let first = two_bytes(first_number(layout, header.count));
     let shop = two_bytes(header.shop);
     let table = four_bytes(header.table);
     let length = four_bytes(header.length);
+    let count = two_bytes(header.count);
+    let size = two_bytes(header.size);
     [
-        count.low,
-        count.high,
+        first.low,
+        first.high,
         shop.low,
         shop.high,
         table.a,
@@ -168,11 +292,16 @@ pub fn header_bytes(header: Header) -> [u8; HEADER_SIZE]
         length.b,
         length.c,
         length.d,
+        count.low,
+        count.high,
+        size.low,
+        size.high,
     ]
 }
 
+// The bytes of a plain record.
 pub fn record_bytes(frame: FrameRecord) -> [u8; RECORD_SIZE]
-    ensures { λ r. ⌜ r ≡ recordBytes frame ⌝ }
+    ensures { λ r. ⌜ r ≡ recordBytes Plain (packed frame) ⌝ }
 {
     let offset = four_bytes(frame.offset);
     let width = two_bytes(frame.width);
@@ -197,6 +326,84 @@ pub fn record_bytes(frame: FrameRecord) -> [u8; RECORD_SIZE]
         order.c,
         order.d,
     ]
+}
+
+// The bytes of a strided record: those of a plain one, and the stride.
+pub fn strided_bytes(strided: StridedRecord) -> [u8; STRIDED_RECORD_SIZE]
+    ensures { λ r. ⌜ r ≡ recordBytes Strided strided ⌝ }
+{
+    let frame = record_bytes(strided.frame);
+    let stride = four_bytes(strided.stride);
+    [
+        frame[0],
+        frame[1],
+        frame[2],
+        frame[3],
+        frame[4],
+        frame[5],
+        frame[6],
+        frame[7],
+        frame[8],
+        frame[9],
+        frame[10],
+        frame[11],
+        frame[12],
+        frame[13],
+        frame[14],
+        frame[15],
+        stride.a,
+        stride.b,
+        stride.c,
+        stride.d,
+    ]
+}
+
+// ---- the bytes of a frame's pixels
+
+// A row's own bytes.
+pub fn row_bytes(frame: FrameRecord) -> usize
+    ensures { λ r. ⌜ r ≡ rowBytes frame ⌝ }
+{
+    frame.width as usize * pixel_size(frame.bits != 8)
+}
+
+// The bytes of all rows, without gaps.
+pub fn pixel_bytes(frame: FrameRecord) -> usize
+    ensures { λ r. ⌜ r ≡ pixelBytes frame ⌝ }
+{
+    frame.height as usize * row_bytes(frame)
+}
+
+// The bytes from the start of the first row to the end of the last, gaps included.
+pub fn span_bytes(strided: StridedRecord) -> usize
+    ensures { λ r. ⌜ r ≡ spanBytes strided ⌝ }
+{
+    let row = row_bytes(strided.frame);
+    let height = strided.frame.height as usize;
+    if height == 0 {
+        return row;
+    }
+    (height - 1) * strided.stride as usize + row
+}
+
+// Is there a gap between two rows?
+fn has_gaps(strided: StridedRecord) -> bool
+    ensures { λ r. ⌜ r ≡ hasGaps strided ⌝ }
+{
+    if strided.frame.height <= 1 {
+        return false;
+    }
+    row_bytes(strided.frame) < strided.stride as usize
+}
+
+// A record of rows without gaps.
+pub fn packed(frame: FrameRecord) -> StridedRecord
+    ensures { λ r. ⌜ r ≡ packed frame ⌝ }
+{
+    StridedRecord {
+        frame,
+        stride: row_bytes(frame) as u32,
+    }
 }
 
 // ---- what a record may say
@@ -252,11 +459,18 @@ pub fn check_record(frame: FrameRecord) -> Checked
     Checked::Sound
 }
 
-// The bytes of a frame's pixels.
-pub fn pixel_bytes(frame: FrameRecord) -> usize
-    ensures { λ r. ⌜ r ≡ pixelBytes frame ⌝ }
+// Checks a record's stride, where gaps between rows are taken or not.
+pub fn check_stride(strided: StridedRecord, gaps_taken: bool) -> Checked
+    ensures { λ r. ⌜ verdict r ≡ strideFault «gaps_taken» strided ⌝ }
 {
-    let width = frame.width as usize;
-    let height = frame.height as usize;
-    width * height * pixel_size(frame.bits != 8)
+    if (strided.stride as usize) < row_bytes(strided.frame) {
+        return Checked::Faulty(Refusal::WrongStride);
+    }
+    if gaps_taken {
+        return Checked::Sound;
+    }
+    if has_gaps(strided) {
+        return Checked::Faulty(Refusal::WrongStride);
+    }
+    Checked::Sound
 }

@@ -1,3 +1,4 @@
 pub mod OpenFaults
 pub mod FindFaults
+pub mod Rows
 pub mod Small

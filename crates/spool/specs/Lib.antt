@@ -1,2 +1,3 @@
 pub mod Open
 pub mod Find
+pub mod Rows

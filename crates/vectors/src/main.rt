@@ -183,9 +183,9 @@ fn first_steps(file: &[u8]) -> Steps {
 // A step: the offset of what is found, or the refusal's number, and the number after it.
 fn step_row(found: Found, next: usize) {
     match found {
-        Found::Frame(frame) => {
+        Found::Frame(strided) => {
             io::write_all(STDOUT_FILENO, b"step");
-            show(frame.offset as u64);
+            show(strided.frame.offset as u64);
         }
         Found::Refused(why) => {
             io::write_all(STDOUT_FILENO, b"step refused");

@@ -1,5 +1,7 @@
 -- `frames::next_number` meets its contract, by what Open answers.
 -- Assumes nothing.
+use Prim.Native.Nat.{_<_}
+use native.Mathlib.Omega.{arith}
 use mathlib.Core.Path.{sym, ap, _∙_}
 use borrow.Author.Tests.{lt-ltb, le-ltb}
 use borrow.Author.Needs.{needs}
@@ -25,7 +27,8 @@ enum-told c = search needs
 returns : tie.Need-returns
 returns c =
     let said = ap openSaid (sym (c .before .before .before .contents .given .1)) ∙ c .before .before .before .before .before .«open» .ensures in
-    rw (sym said, lt-ltb _ _ (c .if1 .taken))
+    let below : c .before .before .before .before .before .before .before .args .number < c .before .before .before .contents .given .0 .0 .count = omega (arith, c .if1 .taken) in
+    rw (sym said, lt-ltb _ _ below)
 
 returns-2 : tie.Need-returns-2
 returns-2 c =

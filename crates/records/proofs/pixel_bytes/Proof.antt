@@ -3,29 +3,21 @@
 use native.Mathlib.Nat.{lt-of-le-of-lt}
 use lib.Dec.{lit<}
 use borrow.Author.Needs.{needs}
-use Rattle.records.proofs.Sizes.{area, pixels-small}
+use Rattle.records.proofs.Sizes.{pixels-small}
 use Rattle.records.proofs.pixel_bytes.Statement.{statement}
 use Rattle.records.proofs.pixel_bytes.Tie as tie
 
-cast-width : tie.Need-cast-width
-cast-width c = search needs
+cast-result : tie.Need-cast-result
+cast-result c = search needs
 
-cast-height : tie.Need-cast-height
-cast-height c = search needs
+row-bytes-requires : tie.Need-row-bytes-requires
+row-bytes-requires c κs = search needs
 
 mul-result : tie.Need-mul-result
-mul-result c = record { fits = lt-of-le-of-lt (area (search needs) (search needs)) (lit< tt) }
-
-pixel-size-requires : tie.Need-pixel-size-requires
-pixel-size-requires c κs = search needs
-
-mul-result-2 : tie.Need-mul-result-2
-mul-result-2 c =
-    rw (c .pixel-size .ensures) (record { fits = lt-of-le-of-lt (pixels-small (c .before .before .before .before .args .frame) (search needs) (search needs)) (lit< tt) })
+mul-result c = rw (c .row-bytes .ensures) (record { fits = lt-of-le-of-lt (pixels-small (c .before .before .args .frame) (search needs) (search needs)) (lit< tt) })
 
 returns : tie.Need-returns
-returns c = rw (c .pixel-size .ensures)
+returns c = rw (c .row-bytes .ensures)
 
 pub pixel-bytes-spec : {M : Type 1} → statement M
-pixel-bytes-spec =
-    tie.close (tie.spec cast-width cast-height mul-result pixel-size-requires mul-result-2 returns)
+pixel-bytes-spec = tie.close (tie.spec cast-result row-bytes-requires mul-result returns)

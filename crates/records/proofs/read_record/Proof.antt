@@ -1,6 +1,6 @@
 -- `records::read_record` meets its contract: the part from the place on has the record's bytes.
 -- Assumes nothing.
-use mathlib.Core.Path.{ap, _∙_}
+use mathlib.Core.Path.{sym, ap, _∙_}
 use native.Mathlib.Nat.{le-of-eq}
 use native.Mathlib.Omega.{arith}
 use lib.ListN.{drop, length-drop}
@@ -10,6 +10,9 @@ use Rattle.records.specs.Layout.{recordIn}
 use borrow.Author.Needs.{needs}
 use Rattle.records.proofs.read_record.Statement.{statement}
 use Rattle.records.proofs.read_record.Tie as tie
+
+record-size-requires : tie.Need-record-size-requires
+record-size-requires c κs = search needs
 
 returns : tie.Need-returns
 returns c = search needs
@@ -34,13 +37,14 @@ record-in-requires c κs = search needs
 
 returns-3 : tie.Need-returns-3
 returns-3 c =
-    let a = c .before .before .before .before .before .args in
-    (omega arith, c .record-in .ensures ∙ ap recordIn (take-all _ (drop (a .at) (now (a .bytes))) (le-of-eq (length-drop (a .at) (now (a .bytes))))))
+    let at = c .before .before .before .before .before .before .args in
+    (rw (sym (c .before .before .before .before .record-size .ensures)) (omega arith), c .record-in .ensures ∙ ap (recordIn (at .layout)) (take-all _ (drop (at .at) (now (at .bytes))) (le-of-eq (length-drop (at .at) (now (at .bytes))))))
 
 pub read-record-spec : {M : Type 1} → statement M
 read-record-spec =
     tie.close
     (tie.spec
+    record-size-requires
     returns
     sub-if2
     returns-2

@@ -1,46 +1,22 @@
 -- `records::record_in` meets its contract.
 -- Assumes nothing.
-use Rattle.records.proofs.Fields.{one-read, record-read}
+use native.Mathlib.Nat.{le-trans}
+use Rattle.records.proofs.Sizes.{record-sizes}
+use Rattle.records.proofs.Fields.{record-read}
 use borrow.Author.Needs.{needs}
 use Rattle.records.proofs.record_in.Statement.{statement}
 use Rattle.records.proofs.record_in.Tie as tie
 
-four-at-requires : tie.Need-four-at-requires
-four-at-requires c κs = search needs
+frame-in-requires : tie.Need-frame-in-requires
+frame-in-requires c κs = le-trans (record-sizes (c .before .args .layout) .0) (c .before .pre)
 
-two-at-requires : tie.Need-two-at-requires
-two-at-requires c κs = search needs
-
-two-at-requires-2 : tie.Need-two-at-requires-2
-two-at-requires-2 c κs = search needs
-
-shared-slice-read-t6 : tie.Need-shared-slice-read-t6
-shared-slice-read-t6 c = search needs
-
-shared-slice-read-t8 : tie.Need-shared-slice-read-t8
-shared-slice-read-t8 c = search needs
-
-two-at-requires-3 : tie.Need-two-at-requires-3
-two-at-requires-3 c κs = search needs
-
-four-at-requires-2 : tie.Need-four-at-requires-2
-four-at-requires-2 c κs = search needs
+stride-in-requires : tie.Need-stride-in-requires
+stride-in-requires c κs = search needs
 
 returns : tie.Need-returns
 returns c =
-    let start = c .before .before .before .before .before .before .before .before in
-    let bytes = start .args .bytes .now in
-    record-read bytes (c .before .before .before .before .before .before .four-at .ensures) (c .before .before .before .before .before .two-at .ensures) (c .before .before .before .before .two-at2 .ensures) (one-read bytes 8 (search needs)) (one-read bytes 9 (search needs)) (c .before .two-at3 .ensures) (c .four-at2 .ensures)
+    let at = c .before .before .before .args in
+    record-read (at .layout) (at .bytes .now) (c .before .frame-in .ensures) (c .stride-in .ensures)
 
 pub record-in-spec : {M : Type 1} → statement M
-record-in-spec =
-    tie.close
-    (tie.spec
-    four-at-requires
-    two-at-requires
-    two-at-requires-2
-    shared-slice-read-t6
-    shared-slice-read-t8
-    two-at-requires-3
-    four-at-requires-2
-    returns)
+record-in-spec = tie.close (tie.spec frame-in-requires stride-in-requires returns)

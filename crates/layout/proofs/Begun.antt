@@ -1,40 +1,66 @@
 -- What stands between the two passes, from the tests that lead there.
 -- Assumes nothing.
-use Prim.Native.Nat.{ℕ, _+_, _≤_, _<_}
-use mathlib.Core.Path.{_≡_}
+use Prim.Native.Nat.{ℕ, _+_, _*_, _≤_, _<_}
+use mathlib.Core.Path.{_≡_, ap, _∙_}
 use mathlib.Core.Bool.{true, false}
 use mathlib.Core.List.{List, _++_}
-use lib.ListN.{length, drop}
+use lib.ListN.{length, take, drop}
 use borrow.Author.Tests.{lt-ltb, le-ltb, eq-eqb, ne-eqb}
 use Rattle.refusal.specs.declared.Answer.{Answer}
 use Rattle.refusal.specs.declared.Answer.the-variants.{Done}
 use Rattle.refusal.specs.Answers.{Said, accepted, refused, said}
-use Rattle.records.specs.Layout.{headerBytes, headerSize}
+use Rattle.records.specs.declared.Layout.{Layout}
+use Rattle.records.specs.Layout.{headerBytes, headerSize, recordSize}
 use Rattle.records.specs.Faults.{frameLimit}
 use Rattle.layout.specs.declared.Progress.{Progress}
-use Rattle.layout.specs.LayOut.{pixelsFrom, headerOf, lengthLimit}
+use Rattle.layout.specs.LayOut.{pixelsFrom, headerFor, lengthLimit}
 use Rattle.layout.specs.HowLaidOut.{stateOf, stopped, begun, readied}
+use Rattle.layout.proofs.Written.{copied}
+use Rattle.layout.proofs.Read.{header-length}
 
-pub stop-state : (d : List ℕ) {p : Progress} {a : Answer} → (p .writing ≡ false) × (p .answer ≡ a) → stateOf p d ≡ stopped (said a) d
-stop-state d h = rw (h .0, h .1)
+pub stop-state : (d : List ℕ) {p : Progress} {l : Layout} {a : Answer} → (p .layout ≡ l) × (p .writing ≡ false) × (p .answer ≡ a) → stateOf p d ≡ stopped l (said a) d
+stop-state d h = rw (h .0, h .1, h .2)
 
-module _ (count shop pixels : ℕ) (d : List ℕ) where
-  pub begin-too-long : lengthLimit < pixelsFrom count + pixels → stopped (refused 14) d ≡ begun count shop (accepted pixels) d
+module _ (l : Layout) (count shop pixels : ℕ) (d : List ℕ) where
+  pub begin-too-long : lengthLimit < pixelsFrom l count + pixels → stopped l (refused 14) d ≡ begun l count shop (accepted pixels) d
   begin-too-long h = simp (lt-ltb _ _ h)
 
-  module _ (fits : pixelsFrom count + pixels ≤ lengthLimit) where
-    pub begin-wrong-room : (length d ≡ pixelsFrom count + pixels → ⊥) → stopped (refused 11) d ≡ begun count shop (accepted pixels) d
+  module _ (fits : pixelsFrom l count + pixels ≤ lengthLimit) where
+    pub begin-wrong-room : (length d ≡ pixelsFrom l count + pixels → ⊥) → stopped l (refused 11) d ≡ begun l count shop (accepted pixels) d
     begin-wrong-room h = simp (le-ltb _ _ fits, ne-eqb _ _ h)
 
-    pub begin-writes : {d′ : List ℕ} → length d ≡ pixelsFrom count + pixels → d′ ≡ headerBytes (headerOf count shop (pixelsFrom count + pixels)) ++ drop headerSize d
-        → stateOf (record { writing = true; answer = Done (pixelsFrom count) }) d′ ≡ begun count shop (accepted pixels) d
-    begin-writes h e = rw (e, le-ltb _ _ fits, eq-eqb _ _ h)
+    pub begin-writes : {first : ℕ} {d′ : List ℕ} → length d ≡ pixelsFrom l count + pixels → first ≡ pixelsFrom l count → d′ ≡ headerBytes l (headerFor l count shop (pixelsFrom l count + pixels)) ++ drop (headerSize l) d
+        → stateOf (record { layout = l; writing = true; answer = Done first }) d′ ≡ begun l count shop (accepted pixels) d
+    begin-writes h f e = rw (f, e, le-ltb _ _ fits, eq-eqb _ _ h)
+
+-- The header's bytes, copied to the start.
+header-copied : (l : Layout) (count shop pixels : ℕ) (d full : List ℕ) {least size : ℕ} {d′ : List ℕ} → least ≡ headerSize l → size ≡ recordSize l
+    → take (headerSize l) full ≡ headerBytes l (record { count = count; shop = shop; table = least; length = least + size * count + pixels; size = size })
+    → d′ ≡ take (length (take least full)) (take least full) ++ drop (length (take least full)) d
+    → d′ ≡ headerBytes l (headerFor l count shop (pixelsFrom l count + pixels)) ++ drop (headerSize l) d
+header-copied l count shop pixels d full {least} e f is copy =
+    let head = headerBytes l (headerFor l count shop (pixelsFrom l count + pixels)) in
+    let front : take least full ≡ head = ap (λ (n : ℕ). take n full) e ∙ is ∙ rw (e, f) in
+    copied d {bytes = take least full} {b = head} front copy ∙ ap (λ (n : ℕ). head ++ drop n d) (header-length l (headerFor l count shop (pixelsFrom l count + pixels)))
+
+-- `begin`, by the sizes that it works out.
+module _ (l : Layout) (count shop pixels : ℕ) (d : List ℕ) {least size : ℕ} (e : least ≡ headerSize l) (f : size ≡ recordSize l) where
+  pub first-is : least + size * count ≡ pixelsFrom l count
+  first-is = rw (e, f)
+
+  pub begins : (full : List ℕ) {d′ : List ℕ} → least + size * count + pixels ≤ lengthLimit → length d ≡ least + size * count + pixels
+      → take (headerSize l) full ≡ headerBytes l (record { count = count; shop = shop; table = least; length = least + size * count + pixels; size = size })
+      → d′ ≡ take (length (take least full)) (take least full) ++ drop (length (take least full)) d
+      → stateOf (record { writing = true; answer = Done (least + size * count); layout = l }) d′ ≡ begun l count shop (accepted pixels) d
+  begins full small room is copy =
+      let total : least + size * count + pixels ≡ pixelsFrom l count + pixels = rw first-is in
+      begin-writes l count shop pixels d (rw total at small) (room ∙ total) first-is (header-copied l count shop pixels d full e f is copy)
 
 module _ (count shop : ℕ) (d : List ℕ) (p : Progress) where
-  pub ready-too-many : frameLimit < count → stopped (refused 3) d ≡ readied count shop (stateOf p d)
+  pub ready-too-many : frameLimit < count → stopped (p .layout) (refused 3) d ≡ readied count shop (stateOf p d)
   unfolding readied
   ready-too-many h = simp (lt-ltb _ _ h)
 
-  pub ready-begins : count ≤ frameLimit → (s : Said) → said (p .answer) ≡ s → begun count shop s d ≡ readied count shop (stateOf p d)
+  pub ready-begins : count ≤ frameLimit → (s : Said) → said (p .answer) ≡ s → begun (p .layout) count shop s d ≡ readied count shop (stateOf p d)
   unfolding readied
   ready-begins h s e = rw (le-ltb _ _ h, e)

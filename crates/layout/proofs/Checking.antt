@@ -10,20 +10,22 @@ use lib.Dec.{ltb}
 use borrow.Author.Tests.{lt-ltb, le-ltb, ltb-true}
 use Rattle.refusal.specs.Answers.{Verdict, sound, faulty, Said, accepted, refused, refusedAt}
 use Rattle.records.specs.declared.FrameRecord.{FrameRecord}
-use Rattle.records.specs.Faults.{pixelBytes, recordFault}
+use Rattle.records.specs.declared.Layout.{Layout}
+use Rattle.records.specs.Pixels.{pixelBytes}
+use Rattle.records.specs.Faults.{recordFault}
 use Rattle.layout.specs.LayOut.{lengthLimit, allPixels, recordsSay}
 use Rattle.layout.specs.HowLaidOut.{grown, recordWritten, walked}
 
 -- A pass that has refused goes on as it is.
-pub stays-refused : (rs : List FrameRecord) (i : ℕ) (w : Bool) (n : ℕ) (d : List ℕ) → walked rs i (record { writing = w; says = refused n; bytes = d }) ≡ record { writing = w; says = refused n; bytes = d }
+pub stays-refused : (l : Layout) (rs : List FrameRecord) (i : ℕ) (w : Bool) (n : ℕ) (d : List ℕ) → walked rs i (record { layout = l; writing = w; says = refused n; bytes = d }) ≡ record { layout = l; writing = w; says = refused n; bytes = d }
 unfolding walked
-stays-refused [] i w n d = refl
-stays-refused (r ∷ rs) i w n d = stays-refused rs (i + 1) w n d
+stays-refused l [] i w n d = refl
+stays-refused l (r ∷ rs) i w n d = stays-refused l rs (i + 1) w n d
 
-pub stays-refused-at : (rs : List FrameRecord) (i : ℕ) (w : Bool) (n at : ℕ) (d : List ℕ) → walked rs i (record { writing = w; says = refusedAt n at; bytes = d }) ≡ record { writing = w; says = refusedAt n at; bytes = d }
+pub stays-refused-at : (l : Layout) (rs : List FrameRecord) (i : ℕ) (w : Bool) (n at : ℕ) (d : List ℕ) → walked rs i (record { layout = l; writing = w; says = refusedAt n at; bytes = d }) ≡ record { layout = l; writing = w; says = refusedAt n at; bytes = d }
 unfolding walked
-stays-refused-at [] i w n at d = refl
-stays-refused-at (r ∷ rs) i w n at d = stays-refused-at rs (i + 1) w n at d
+stays-refused-at l [] i w n at d = refl
+stays-refused-at l (r ∷ rs) i w n at d = stays-refused-at l rs (i + 1) w n at d
 
 -- Records none of which is at fault.
 pub data Fine : List FrameRecord → Type 0 where
@@ -36,22 +38,22 @@ summed s [] = s
 summed s (r ∷ rs) = summed (grown s (pixelBytes r)) rs
 
 -- A pass from place i that has come to the sum s: either a record is at fault, or none is.
-pub data Checked (rs : List FrameRecord) (i s : ℕ) (d : List ℕ) : Type 0 where
+pub data Checked (l : Layout) (rs : List FrameRecord) (i s : ℕ) (d : List ℕ) : Type 0 where
   atFault : (n at : ℕ) → ((x : Said) → recordsSay x i rs ≡ refusedAt n at)
-      → walked rs i (record { writing = false; says = accepted s; bytes = d }) ≡ record { writing = false; says = refusedAt n at; bytes = d } → Checked rs i s d
+      → walked rs i (record { layout = l; writing = false; says = accepted s; bytes = d }) ≡ record { layout = l; writing = false; says = refusedAt n at; bytes = d } → Checked l rs i s d
   fine : Fine rs → ((x : Said) → recordsSay x i rs ≡ x)
-      → walked rs i (record { writing = false; says = accepted s; bytes = d }) ≡ record { writing = false; says = accepted (summed s rs); bytes = d } → Checked rs i s d
+      → walked rs i (record { layout = l; writing = false; says = accepted s; bytes = d }) ≡ record { layout = l; writing = false; says = accepted (summed s rs); bytes = d } → Checked l rs i s d
 
-check-one : (v : Verdict) (r : FrameRecord) (rs : List FrameRecord) (i s : ℕ) (d : List ℕ) → recordFault r ≡ v → Checked rs (i + 1) (grown s (pixelBytes r)) d → Checked (r ∷ rs) i s d
+check-one : (l : Layout) (v : Verdict) (r : FrameRecord) (rs : List FrameRecord) (i s : ℕ) (d : List ℕ) → recordFault r ≡ v → Checked l rs (i + 1) (grown s (pixelBytes r)) d → Checked l (r ∷ rs) i s d
 unfolding recordsSay walked recordWritten
-check-one sound r rs i s d e (atFault n at says walks) = atFault n at (λ x. rw e (says x)) (rw e walks)
-check-one sound r rs i s d e (fine good says walks) = fine (one e good) (λ x. rw e (says x)) (rw e walks)
-check-one (faulty n) r rs i s d e rest = atFault n i (λ x. rw e) (rw e (stays-refused-at rs (i + 1) false n i d))
+check-one l sound r rs i s d e (atFault n at says walks) = atFault n at (λ x. rw e (says x)) (rw e walks)
+check-one l sound r rs i s d e (fine good says walks) = fine (one e good) (λ x. rw e (says x)) (rw e walks)
+check-one l (faulty n) r rs i s d e rest = atFault n i (λ x. rw e) (rw e (stays-refused-at l rs (i + 1) false n i d))
 
-pub check : (rs : List FrameRecord) (i s : ℕ) (d : List ℕ) → Checked rs i s d
+pub check : (l : Layout) (rs : List FrameRecord) (i s : ℕ) (d : List ℕ) → Checked l rs i s d
 unfolding recordsSay walked
-check [] i s d = fine none (λ x. refl) refl
-check (r ∷ rs) i s d = check-one (recordFault r) r rs i s d refl (check rs (i + 1) (grown s (pixelBytes r)) d)
+check l [] i s d = fine none (λ x. refl) refl
+check l (r ∷ rs) i s d = check-one l (recordFault r) r rs i s d refl (check l rs (i + 1) (grown s (pixelBytes r)) d)
 
 -- The sum is exact up to the limit, and past it where the pixels are.
 past : (rs : List FrameRecord) (s : ℕ) → lengthLimit < s → summed s rs ≡ s

@@ -1,9 +1,10 @@
 pub mod Written
-pub mod Begun
 pub mod Checking
+pub mod Places
 pub mod Writing
+pub mod Read
+pub mod Begun
 pub mod Laid
 pub mod Relent
 pub mod Passes
-pub mod Read
 pub mod RoundTrip

@@ -1,7 +1,7 @@
 -- What the pass that writes leaves: the table, with the pixels placed one after another.
 -- Assumes nothing.
 use Prim.Native.Nat.{ℕ, suc, _+_, _-_, _≤_, _<_}
-use native.Mathlib.Nat.{add-zero, add-assoc, add-sub-of-le}
+use native.Mathlib.Nat.{add-zero, add-assoc, add-sub-of-le, le-trans}
 use native.Mathlib.Omega.{arith}
 use mathlib.Core.Path.{_≡_, sym, ap, ap₂, _∙_}
 use mathlib.Core.Bool.{true}
@@ -11,12 +11,15 @@ use lib.Seq.{take-at, drop-at, drop-drop}
 use borrow.Author.Tests.{le-ltb}
 use Rattle.refusal.specs.Answers.{sound, accepted}
 use Rattle.records.specs.declared.FrameRecord.{FrameRecord}
+use Rattle.records.specs.declared.Layout.{Layout}
 use Rattle.records.specs.Layout.{recordBytes, recordSize, withOffset}
-use Rattle.records.specs.Faults.{pixelBytes, recordFault, frameLimit}
+use Rattle.records.specs.Pixels.{pixelBytes, packed}
+use Rattle.records.specs.Faults.{recordFault, frameLimit}
 use Rattle.layout.specs.LayOut.{allPixels, placed, tableBytes, lengthLimit, recordPlace}
 use Rattle.layout.specs.HowLaidOut.{visited, walked}
-use Rattle.layout.proofs.Written.{in-place}
+use Rattle.layout.proofs.Written.{record-length, in-place}
 use Rattle.layout.proofs.Checking.{Fine, none, one}
+use Rattle.layout.proofs.Places.{next-place, later-place}
 
 -- Bytes written over a list from `at` to `end`: how long the list is, and what stands before and behind their end.
 abbrev pub over : List ℕ → List ℕ → ℕ → ℕ → List ℕ
@@ -44,36 +47,35 @@ module _ (d b : List ℕ) (at end : ℕ) (e : at + length b ≡ end) (h : end �
       ∙ ap (λ (m : ℕ). drop m d) (add-sub-of-le l)
 
 -- One record written, where it is sound and fits.
-module _ (r : FrameRecord) (i end : ℕ) (d : List ℕ) (few : i < frameLimit) (small : end ≤ lengthLimit) (room : recordPlace (i + 1) ≤ length d) where
-  ends : recordPlace i + recordSize ≡ recordPlace (i + 1)
-  ends = omega arith
-
-  write-one : recordFault r ≡ sound → visited (record { writing = true; says = accepted end; bytes = d }) i r
-      ≡ record { writing = true; says = accepted (end + pixelBytes r); bytes = over d (recordBytes (withOffset end r)) (recordPlace i) (recordPlace (i + 1)) }
+module _ (l : Layout) (r : FrameRecord) (i end : ℕ) (d : List ℕ) (few : i < frameLimit) (small : end ≤ lengthLimit) (room : recordPlace l (i + 1) ≤ length d) where
+  write-one : recordFault r ≡ sound → visited (record { layout = l; writing = true; says = accepted end; bytes = d }) i r
+      ≡ record { layout = l; writing = true; says = accepted (end + pixelBytes r); bytes = over d (recordBytes l (packed (withOffset end r))) (recordPlace l i) (recordPlace l (i + 1)) }
   write-one good =
       rw (good, le-ltb _ _ small)
-      (ap (λ (b : List ℕ). record { writing = true; says = accepted (end + pixelBytes r); bytes = b })
-      (in-place i end r d few small (omega arith) ∙ ap (λ (k : ℕ). take (recordPlace i) d ++ (recordBytes (withOffset end r) ++ drop k d)) ends))
+      (ap (λ (b : List ℕ). record { layout = l; writing = true; says = accepted (end + pixelBytes r); bytes = b })
+      (in-place l i end r d few small (rw (next-place l i) room) ∙ ap (λ (k : ℕ). take (recordPlace l i) d ++ (recordBytes l (packed (withOffset end r)) ++ drop k d)) (next-place l i)))
 
-pub write-all : (rs : List FrameRecord) (i end : ℕ) (d : List ℕ) → Fine rs → i + length rs ≤ frameLimit → end + allPixels rs ≤ lengthLimit → recordPlace (i + length rs) ≤ length d
-    → walked rs i (record { writing = true; says = accepted end; bytes = d })
-    ≡ record { writing = true; says = accepted (end + allPixels rs); bytes = take (recordPlace i) d ++ (tableBytes (placed end rs) ++ drop (recordPlace (i + length rs)) d) }
+pub write-all : (l : Layout) (rs : List FrameRecord) (i end : ℕ) (d : List ℕ) → Fine rs → i + length rs ≤ frameLimit → end + allPixels rs ≤ lengthLimit → recordPlace l (i + length rs) ≤ length d
+    → walked rs i (record { layout = l; writing = true; says = accepted end; bytes = d })
+    ≡ record { layout = l; writing = true; says = accepted (end + allPixels rs); bytes = take (recordPlace l i) d ++ (tableBytes l (placed end rs) ++ drop (recordPlace l (i + length rs)) d) }
 unfolding walked
-write-all [] i end d none few small room =
-    rw (add-zero end, add-zero i) (ap (λ (b : List ℕ). record { writing = true; says = accepted end; bytes = b }) (sym (take-append-drop (recordPlace i) d)))
-write-all (r ∷ rs) i end d (one good rest) few small room =
+write-all l [] i end d none few small room =
+    rw (add-zero end, add-zero i) (ap (λ (b : List ℕ). record { layout = l; writing = true; says = accepted end; bytes = b }) (sym (take-append-drop (recordPlace l i) d)))
+write-all l (r ∷ rs) i end d (one good rest) few small room =
     let low : i < frameLimit = omega arith in
     let fits : end ≤ lengthLimit = omega arith in
-    let next : recordPlace (i + 1) ≤ length d = omega arith in
-    let b = recordBytes (withOffset end r) in
-    let e = ends r i end d low fits next in
-    let d′ = over d b (recordPlace i) (recordPlace (i + 1)) in
-    let long : length d′ ≡ length d = over-length d b (recordPlace i) (recordPlace (i + 1)) e next in
     let step : i + 1 + length rs ≡ i + suc (length rs) = omega arith in
-    ap (walked rs (i + 1)) (write-one r i end d low fits next good)
-    ∙ write-all rs (i + 1) (end + pixelBytes r) d′ rest (omega arith) (omega arith) (rw long (omega arith))
-    ∙ ap₂ (λ (n : ℕ) (x : List ℕ). record { writing = true; says = accepted n; bytes = x }) (add-assoc end (pixelBytes r) (allPixels rs))
-    (ap (λ (x : List ℕ). x ++ (tableBytes (placed (end + pixelBytes r) rs) ++ drop (recordPlace (i + 1 + length rs)) d′)) (over-take d b (recordPlace i) (recordPlace (i + 1)) e next)
-    ∙ ap (λ (x : List ℕ). (take (recordPlace i) d ++ b) ++ (tableBytes (placed (end + pixelBytes r) rs) ++ x)) (over-drop d b (recordPlace i) (recordPlace (i + 1)) e next (recordPlace (i + 1 + length rs)) (omega arith))
-    ∙ ap (λ (k : ℕ). (take (recordPlace i) d ++ b) ++ (tableBytes (placed (end + pixelBytes r) rs) ++ drop (recordPlace k) d)) step
+    let further : recordPlace l (i + 1) ≤ recordPlace l (i + suc (length rs)) = later-place l (omega arith) in
+    let next : recordPlace l (i + 1) ≤ length d = le-trans further room in
+    let b = recordBytes l (packed (withOffset end r)) in
+    let e : recordPlace l i + length b ≡ recordPlace l (i + 1) = rw (record-length l (packed (withOffset end r))) (next-place l i) in
+    let d′ = over d b (recordPlace l i) (recordPlace l (i + 1)) in
+    let long : length d′ ≡ length d = over-length d b (recordPlace l i) (recordPlace l (i + 1)) e next in
+    let more : recordPlace l (i + 1 + length rs) ≤ length d′ = rw (long, step) room in
+    ap (walked rs (i + 1)) (write-one l r i end d low fits next good)
+    ∙ write-all l rs (i + 1) (end + pixelBytes r) d′ rest (omega arith) (omega arith) more
+    ∙ ap₂ (λ (n : ℕ) (x : List ℕ). record { layout = l; writing = true; says = accepted n; bytes = x }) (add-assoc end (pixelBytes r) (allPixels rs))
+    (ap (λ (x : List ℕ). x ++ (tableBytes l (placed (end + pixelBytes r) rs) ++ drop (recordPlace l (i + 1 + length rs)) d′)) (over-take d b (recordPlace l i) (recordPlace l (i + 1)) e next)
+    ∙ ap (λ (x : List ℕ). (take (recordPlace l i) d ++ b) ++ (tableBytes l (placed (end + pixelBytes r) rs) ++ x)) (over-drop d b (recordPlace l i) (recordPlace l (i + 1)) e next (recordPlace l (i + 1 + length rs)) (rw step further))
+    ∙ ap (λ (k : ℕ). (take (recordPlace l i) d ++ b) ++ (tableBytes l (placed (end + pixelBytes r) rs) ++ drop (recordPlace l k) d)) step
     ∙ simp append-assoc)

@@ -47,6 +47,7 @@ use Rattle.refusal.specs.declared.Answer.the-variants.{Done}
 use Rattle.refusal.proofs.Answer as N
 use Rattle.refusal.proofs.Answer.Laws as N′
 use Rattle.records.specs.declared.FrameRecord.{FrameRecord}
+use Rattle.records.specs.declared.Layout.the-variants.{Plain}
 use Rattle.records.proofs.FrameRecord as T
 use Rattle.records.proofs.FrameRecord.Laws as T′
 use Rattle.layout.specs.declared.Progress.{Progress}
@@ -203,7 +204,7 @@ module _ {M : Type 1} (𝓤 : URA M) (H : Heap 𝓤) (A : Atoms 𝓤) (W : Given
     Readied p′ zs = stateOf p′ zs ≡ readied n shop (stateOf p bs)
 
   abbrev Started : Progress → Type 0
-  Started p = (p .writing ≡ false) × (p .answer ≡ Done 0)
+  Started p = (p .layout ≡ Plain) × (p .writing ≡ false) × (p .answer ≡ Done 0)
 
   module _ (𝓣 : Tables 𝓤 H) (known-unchecked : Triple 𝓤 (𝓣 .C #layout·unchecked) (Unchecked 𝓤 H A at-mem run)) (known-pass : Triple 𝓤 (𝓣 .C #layout·pass) (Pass 𝓤 H A at-mem run)) (known-ready : Triple 𝓤 (𝓣 .C #layout·ready) (Ready 𝓤 H A at-mem run))
       (l₀ l₁ l₂ l₃ l₄ l₅ l₆ l₇ l₈ l₉ l₁₀ l₁₁ l₁₂ l₁₃ l₁₄ : ℕ) where

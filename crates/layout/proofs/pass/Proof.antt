@@ -56,7 +56,7 @@ use Rattle.layout.specs.declared.Progress.{Progress}
 use Rattle.layout.specs.HowLaidOut.{State, stateOf, visited, walked}
 use Rattle.records.proofs.FrameRecord as T
 use Rattle.records.proofs.FrameRecord.Laws as T′
-use Rattle.records.specs.Layout.{noRecord}
+use Rattle.records.specs.Layout.{noFrame}
 use Rattle.layout.proofs.Relent.{Kept, lends-on, comes-home}
 use Rattle.layout.proofs.Passes.{one-more, none-left}
 use Rattle.layout.proofs.Progress as P
@@ -236,11 +236,11 @@ module _ {M : Type 1} (𝓤 : URA M) (H : Heap 𝓤) (A : Atoms 𝓤) (W : Given
         assigns ! (bin ! (load ! (from ! (fld ! refl (stop !))) (look-in ! 26 (sub ! 0 refl (whole !)))) (load ! (from ! (stop !)) (look ! 14 refl)) tt) (from ! (stop !)) (init ! 10 refl (tt, tt)) $
         rewrite ! 10 (λ (m : ℕ). ‵ (fat fullShare tyPtr l₉ 0 (vptr b m))) (sym (place-is 16 o (t .i))) refl $
         move ! (1 ∷ 0 ∷ []) $ looks-slice ! tt R (Is R) (shows 𝓤 H A R) vals (LL.tells T.the-type T′.the-laws) (LL.copy T.the-type T′.the-copy 𝓤 H A W) rs b o (λ s.
-        elem-out ! R (Is R) (shows 𝓤 H A R) vals (LL.tells T.the-type T′.the-laws) s rs (t .i) noRecord b o less (λ g.
+        elem-out ! R (Is R) (shows 𝓤 H A R) vals (LL.tells T.the-type T′.the-laws) s rs (t .i) noFrame b o less (λ g.
         -- [the record's cell; what it owns; the others; what shuts; the borrow; the destination; its token; _12; …]
         assigns ! (of-opd ! (load ! (from ! (hop ! (look ! 13 refl) (stop !))) (look-raw ! 0 refl))) (from ! (stop !)) (init ! 11 refl (LL.lawful T.the-type T′.the-laws 𝓤 H A W .typed rec _ g .0)) $
         assigns ! (of-opd ! (load ! (from ! (stop !)) (look ! 11 refl))) (from ! (stop !)) (init ! 19 refl (LL.lawful T.the-type T′.the-laws 𝓤 H A W .typed rec _ g .0)) $
-        elem-back ! R s rs (t .i) noRecord (vals rec) b o less $ shuts-slice ! tt R s rs b o $
+        elem-back ! R s rs (t .i) noFrame (vals rec) b o less $ shuts-slice ! tt R s rs b o $
         -- [the records' token; their borrow; the destination; its token; _12; …]
         assigns ! (addr ! (from ! (fld ! refl (hop ! (look-in ! 24 (sub ! 0 refl (whole !))) (stop !))))) (from ! (stop !)) (init ! 6 refl (tt, tt)) $
         assigns ! (agg ! (and-then ! (load ! (from ! (stop !)) (look ! 6 refl)) (and-then ! (load ! (from ! (fld ! refl (stop !))) (look-in ! 24 (sub ! 1 refl (whole !)))) (no-more !)))) (from ! (stop !)) (init ! 4 refl (tt, (tt, (record { fits = fit′ .0 }, tt)))) $
@@ -269,7 +269,7 @@ module _ {M : Type 1} (𝓤 : URA M) (H : Heap 𝓤) (A : Atoms 𝓤) (W : Given
         less = ltb-true (t .i) n e
 
         rec : FrameRecord
-        rec = getD rs (t .i) noRecord
+        rec = getD rs (t .i) noFrame
 
         Gave : Progress → List ℕ → Type 0
         Gave p bs = stateOf p bs ≡ visited (stateOf (t .p) (t .bs)) (t .i) rec

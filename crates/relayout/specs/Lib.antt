@@ -1,0 +1,3 @@
+pub mod Relayout
+pub mod HowCarried
+pub mod Carried

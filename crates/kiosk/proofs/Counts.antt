@@ -1,6 +1,6 @@
 -- The counts that operations give fit a signed number of 64 bits: a slice has fewer bytes than that.
 -- Assumes nothing.
-use Prim.Native.Nat.{ℕ, _+_, _/_, _^_, _<_}
+use Prim.Native.Nat.{ℕ, zero, suc, _+_, _/_, _^_, _<_}
 use mathlib.Core.Path.{_≡_, refl}
 use mathlib.Core.Bool.{Bool, true, false, cond}
 use mathlib.Core.List.{List, [], _∷_}
@@ -20,9 +20,17 @@ use Rattle.picture.specs.Convert.{source, target, offers, convertSays}
 use Rattle.transfer.specs.Level.{offersCodes}
 use Rattle.linear.specs.Operations.{codesToLightSays, lightToCodesSays}
 use Rattle.records.specs.declared.FrameRecord.{FrameRecord}
-use Rattle.records.specs.Faults.{frameLimit, pixelBytes, recordFault}
-use Rattle.records.proofs.Sizes.{pixels-small}
-use Rattle.layout.specs.LayOut.{lengthLimit, totalLength, layoutSays, recordsSay}
+use Rattle.records.specs.declared.StridedRecord.{StridedRecord}
+use Rattle.records.specs.declared.Layout.the-variants.{Plain}
+use Rattle.records.specs.Layout.{headerOf}
+use Rattle.records.specs.Pixels.{spanBytes}
+use Rattle.records.specs.Faults.{frameLimit, recordFault}
+use Rattle.records.proofs.Sizes.{row-small, span-small}
+use Rattle.spool.specs.Open.{openFault}
+use Rattle.spool.specs.Find.{recordAt, frameFault}
+use Rattle.spool.specs.Rows.{rowExtent}
+use Rattle.layout.specs.LayOut.{lengthLimit, totalLength, roomSays, layoutSays, recordsSay}
+use Rattle.relayout.specs.Relayout.{target as carriedTo, recordsOf, framesSay, relayoutSays}
 use Rattle.kiosk.specs.Interface.{Countable}
 
 -- A refusal is countable, whatever it is.
@@ -62,25 +70,43 @@ pub code-counts : (n numbers room : ℕ) → numbers < 2 ^ 63 → Countable (lig
 code-counts n numbers room h =
     or-holds Countable (callFault (offersCodes n) false true numbers room) (accepted (numbers / 3)) (λ number. tt) (pixels false numbers h)
 
-pub frame-counts : (r : FrameRecord) → r .width < 2 ^ 16 → r .height < 2 ^ 16 → pixelBytes r < 2 ^ 63
-frame-counts r w h = lt-of-le-of-lt (pixels-small r w h) (lit< tt)
+-- The bytes of a frame's pixels, and of a row.
+pub frame-counts : (s : StridedRecord) → s .frame .width < 2 ^ 16 → s .frame .height < 2 ^ 16 → s .stride < 2 ^ 32 → spanBytes s < 2 ^ 63
+frame-counts s w h t = lt-of-le-of-lt (span-small s w h t) (lit< tt)
 
--- ---- laying out
+pub row-counts : (s : StridedRecord) (j : ℕ) → s .frame .width < 2 ^ 16 → rowExtent s j .length < 2 ^ 63
+row-counts s j w = by-test (ltb j (s .frame .height)) refl where
+  by-test : (b : Bool) → ltb j (s .frame .height) ≡ b → rowExtent s j .length < 2 ^ 63
+  by-test true e = rw e (lt-of-le-of-lt (row-small (s .frame) w) (lit< tt))
+  by-test false e = rw e (lit< tt)
+
+-- ---- laying out, and carrying to the other layout
 module _ (done : Said) (h : Countable done) where
   records-say : (at : ℕ) (rs : List FrameRecord) → Countable (recordsSay done at rs)
   unfolding recordsSay
   records-say at [] = h
   records-say at (r ∷ rs) = decided (recordFault r) at (recordsSay done (at + 1) rs) (records-say (at + 1) rs)
 
-totals : (a b : Bool) (total : ℕ) → ltb lengthLimit total ≡ a → Countable (cond a (refused 14) (cond b (accepted total) (refused 11)))
-totals true b total e = tt
-totals false true total e = omega (arith, ltb-false lengthLimit total e)
-totals false false total e = tt
+totals : (total room : ℕ) → Countable (roomSays total room)
+totals total room = by-tests (ltb lengthLimit total) (eqb room total) refl where
+  by-tests : (a b : Bool) → ltb lengthLimit total ≡ a → Countable (cond a (refused 14) (cond b (accepted total) (refused 11)))
+  by-tests true b e = tt
+  by-tests false true e = omega (arith, ltb-false lengthLimit total e)
+  by-tests false false e = tt
 
 pub layout-counts : (rs : List FrameRecord) (room : ℕ) → Countable (layoutSays rs room)
 unfolding layoutSays
 layout-counts rs room =
-    let total = totalLength rs in
-    let verdict = cond (ltb lengthLimit total) (refused 14) (cond (eqb room total) (accepted total) (refused 11)) in
-    or-refused (ltb frameLimit (length rs)) 3 (recordsSay verdict 0 rs)
-    (records-say verdict (totals (ltb lengthLimit total) (eqb room total) total refl) 0 rs)
+    let says = roomSays (totalLength Plain rs) room in
+    or-refused (ltb frameLimit (length rs)) 3 (recordsSay says 0 rs) (records-say says (totals (totalLength Plain rs) room) 0 rs)
+
+frames-say : (file : List ℕ) (done : Said) (h : Countable done) (left k : ℕ) → Countable (framesSay file done left k)
+unfolding framesSay
+frames-say file done h zero k = h
+frames-say file done h (suc left) k = decided (frameFault false file (recordAt file k)) k (framesSay file done left (k + 1)) (frames-say file done h left (k + 1))
+
+pub relayout-counts : (file : List ℕ) (room : ℕ) → Countable (relayoutSays file room)
+unfolding relayoutSays
+relayout-counts file room =
+    let says = roomSays (totalLength (carriedTo file) (recordsOf file)) room in
+    or-holds Countable (openFault file) (framesSay file says (headerOf file .count) 0) (λ number. tt) (frames-say file says (totals (totalLength (carriedTo file) (recordsOf file)) room) (headerOf file .count) 0)

@@ -9,8 +9,10 @@ use lib.IntN.{ℤ, pos, negℤ}
 use Rattle.refusal.specs.Answers.{Said, accepted, refused, refusedAt, leaves}
 use Rattle.samples.specs.declared.Pixel.{Pixel}
 use Rattle.samples.specs.Samples.{samplesIn}
+use Rattle.records.specs.declared.Layout.{Layout}
+use Rattle.records.specs.declared.StridedRecord.{StridedRecord}
 use Rattle.records.specs.Layout.{recordBytes}
-use Rattle.records.specs.Faults.{pixelBytes}
+use Rattle.records.specs.Pixels.{spanBytes}
 use Rattle.picture.specs.declared.Conversion.{Conversion}
 use Rattle.picture.specs.declared.Conversion.the-variants.{ToSrgb}
 use Rattle.picture.specs.Convert.{convertSays, converted, clippedIn}
@@ -19,6 +21,7 @@ use Rattle.tint.specs.Tints.{TintSaid, gives, refusesAt, tintPixel, tintSays}
 use Rattle.stickers.specs.declared.Choice.{Choice}
 use Rattle.spool.specs.Open.{OpenSaid, opens, refusesFile}
 use Rattle.spool.specs.Find.{FindSaid, finds, refusesFrame}
+use Rattle.spool.specs.Rows.{rowExtent}
 
 abbrev pub minus : ℕ → ℤ
 minus number = negℤ (pos number)
@@ -90,12 +93,24 @@ abbrev pub openTable : OpenSaid → ℕ → ℕ
 openTable (opens count shop table) before = table
 openTable (refusesFile k) before = before
 
--- Rule 7.6: the length of the frame's pixels is returned, which start at the record's offset, and the record is written. Refused, it is
--- the record of zeros.
+-- Rule 7.6: the length of the frame's pixels is returned, which start at the record's offset, and the record is written, as the bytes that
+-- it has in one of the layouts. Refused, it is the record of zeros.
 abbrev pub findAnswer : FindSaid → ℤ
-findAnswer (finds r) = pos (pixelBytes r)
-findAnswer (refusesFrame k r) = minus k
+findAnswer (finds s) = pos (spanBytes s)
+findAnswer (refusesFrame k s) = minus k
 
-abbrev pub findRecord : FindSaid → List ℕ
-findRecord (finds r) = recordBytes r
-findRecord (refusesFrame k r) = recordBytes r
+abbrev pub recordOf : FindSaid → StridedRecord
+recordOf (finds s) = s
+recordOf (refusesFrame k s) = s
+
+abbrev pub findRecord : Layout → FindSaid → List ℕ
+findRecord l found = recordBytes l (recordOf found)
+
+-- Rule 7.9: the length of a row is returned, and where it starts is written. Refused, that keeps what it held.
+abbrev pub rowAnswer : FindSaid → ℕ → ℤ
+rowAnswer (finds s) j = pos (rowExtent s j .length)
+rowAnswer (refusesFrame k s) j = minus k
+
+abbrev pub rowStart : FindSaid → ℕ → ℕ → ℕ
+rowStart (finds s) j before = rowExtent s j .start
+rowStart (refusesFrame k s) j before = before

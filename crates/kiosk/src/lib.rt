@@ -11,18 +11,23 @@ use picture::Conversion;
 use picture::convert;
 use records::FrameRecord;
 use records::RECORD_SIZE;
+use records::STRIDED_RECORD_SIZE;
+use records::StridedRecord;
 use records::no_record;
-use records::pixel_bytes;
 use records::record_bytes;
+use records::span_bytes;
+use records::strided_bytes;
 use refusal::Answer;
 use refusal::Refusal;
 use refusal::number;
+use relayout::relayout;
 use roundtrip::both_runs;
 use roundtrip::round_trip;
 use spool::Found;
 use spool::Opened;
 use spool::find;
 use spool::open;
+use spool::row_extent;
 use stickers::Chosen;
 use stickers::TINT_CODES;
 use stickers::choose;
@@ -42,10 +47,12 @@ ghost use Rattle.stickers.specs.Stickers.{requestSays, pictureOf, stickers};
 ghost use Rattle.spool.specs.Open.{openSays};
 ghost use Rattle.spool.specs.Find.{findSaid, findSays};
 ghost use Rattle.frames.specs.Walk.{nextNumber};
+ghost use Rattle.records.specs.declared.Layout.the-variants.{Plain, Strided};
 ghost use Rattle.layout.specs.LayOut.{layoutSays, layoutBytes};
+ghost use Rattle.relayout.specs.Relayout.{relayoutSays, relaid};
 ghost use Rattle.listing.specs.Text.{putText};
 ghost use Rattle.listing.specs.Listing.{listing};
-ghost use Rattle.kiosk.specs.Interface.{minus, answerOf, placeOf, Gives, Converts, ConvertsAt, clipsAfter, Countable, Tints, samplesOfOne, fourOf, sumsOf, openAnswer, openShop, openTable, findAnswer, findRecord};
+ghost use Rattle.kiosk.specs.Interface.{minus, answerOf, placeOf, Gives, Converts, ConvertsAt, clipsAfter, Countable, Tints, samplesOfOne, fourOf, sumsOf, openAnswer, openShop, openTable, findAnswer, recordOf, findRecord, rowAnswer, rowStart};
 
 // A refusal, as C gets it.
 fn refused(refusal: Refusal) -> i64
@@ -412,44 +419,110 @@ pub extern "C" fn kiosk_open(file: &[u8], shop: &mut u16, table: &mut u32) -> i6
     }
 }
 
-// What is found, as C gets it: the length of the frame's pixels, and the record.
-fn found_as(found: Found, frame: &mut [u8; RECORD_SIZE]) -> i64
-    ensures value { λ r. ⌜ r ≡ findAnswer (findSaid found) ⌝ }
-    ensures frame { λ _. ⌜ now (frame .exit) ≡ findRecord (findSaid found) ⌝ }
+// What is found, as C gets it: the record, and the length of the frame's pixels.
+fn record_of(found: Found) -> StridedRecord
+    ensures { λ r. ⌜ r ≡ recordOf (findSaid found) ⌝ }
 {
     match found {
-        Found::Frame(record) => {
-            *frame = record_bytes(record);
-            pixel_bytes(record) as i64
-        }
-        Found::Refused(refusal) => {
-            *frame = record_bytes(no_record());
-            refused(refusal)
-        }
+        Found::Frame(strided) => strided,
+        Found::Refused(_) => no_record(),
     }
 }
 
-// Finds a frame: the length of its pixels, which start at the record's offset.
+fn length_of(found: Found) -> i64
+    ensures { λ r. ⌜ r ≡ findAnswer (findSaid found) ⌝ }
+{
+    match found {
+        Found::Frame(strided) => span_bytes(strided) as i64,
+        Found::Refused(refusal) => refused(refusal),
+    }
+}
+
+// Finds a frame: the length of its pixels, which start at the record's offset. The record is a plain one.
 #[no_mangle]
 pub extern "C" fn kiosk_find(file: &[u8], number: usize, frame: &mut [u8; RECORD_SIZE]) -> i64
     ensures value { λ r. ⌜ r ≡ findAnswer (findSays (now (file .entry)) number) ⌝ }
-    ensures frame { λ _. ⌜ now (frame .exit) ≡ findRecord (findSays (now (file .entry)) number) ⌝ }
+    ensures frame { λ _. ⌜ now (frame .exit) ≡ findRecord Plain (findSays (now (file .entry)) number) ⌝ }
 {
     let found = find(file, number);
-    found_as(found, frame)
+    let strided = record_of(found);
+    *frame = record_bytes(strided.frame);
+    length_of(found)
 }
 
-// One step of the walk over a spool's frames: finds frame `next`, and moves `next` on.
+// The same, with the frame's stride in the record.
+#[no_mangle]
+pub extern "C" fn kiosk_find_strided(
+    file: &[u8],
+    number: usize,
+    frame: &mut [u8; STRIDED_RECORD_SIZE],
+) -> i64
+    ensures value { λ r. ⌜ r ≡ findAnswer (findSays (now (file .entry)) number) ⌝ }
+    ensures frame { λ _. ⌜ now (frame .exit) ≡ findRecord Strided (findSays (now (file .entry)) number) ⌝ }
+{
+    let found = find(file, number);
+    *frame = strided_bytes(record_of(found));
+    length_of(found)
+}
+
+// One step of the walk over a spool's frames: finds frame `next`, and moves `next` on. The record is a
+// plain one.
 #[no_mangle]
 pub extern "C" fn kiosk_step(file: &[u8], next: &mut usize, frame: &mut [u8; RECORD_SIZE]) -> i64
     ensures value { λ r. ⌜ r ≡ findAnswer (findSays (now (file .entry)) (now (next .entry))) ⌝ }
-    ensures frame { λ _. ⌜ now (frame .exit) ≡ findRecord (findSays (now (file .entry)) (now (next .entry))) ⌝ }
+    ensures frame { λ _. ⌜ now (frame .exit) ≡ findRecord Plain (findSays (now (file .entry)) (now (next .entry))) ⌝ }
     ensures next { λ _. ⌜ now (next .exit) ≡ nextNumber (now (file .entry)) (now (next .entry)) ⌝ }
 {
     let visit = step_from(file, *next);
     *next = visit.next;
     let found = visit.found;
-    found_as(found, frame)
+    let strided = record_of(found);
+    *frame = record_bytes(strided.frame);
+    length_of(found)
+}
+
+// The same, with the frame's stride in the record.
+#[no_mangle]
+pub extern "C" fn kiosk_step_strided(
+    file: &[u8],
+    next: &mut usize,
+    frame: &mut [u8; STRIDED_RECORD_SIZE],
+) -> i64
+    ensures value { λ r. ⌜ r ≡ findAnswer (findSays (now (file .entry)) (now (next .entry))) ⌝ }
+    ensures frame { λ _. ⌜ now (frame .exit) ≡ findRecord Strided (findSays (now (file .entry)) (now (next .entry))) ⌝ }
+    ensures next { λ _. ⌜ now (next .exit) ≡ nextNumber (now (file .entry)) (now (next .entry)) ⌝ }
+{
+    let visit = step_from(file, *next);
+    *next = visit.next;
+    let found = visit.found;
+    *frame = strided_bytes(record_of(found));
+    length_of(found)
+}
+
+// A row of a frame: its length, and where it starts in the file.
+#[no_mangle]
+pub extern "C" fn kiosk_row(file: &[u8], number: usize, row: usize, start: &mut usize) -> i64
+    ensures value { λ r. ⌜ r ≡ rowAnswer (findSays (now (file .entry)) number) row ⌝ }
+    ensures start { λ _. ⌜ now (start .exit) ≡ rowStart (findSays (now (file .entry)) number) row (now (start .entry)) ⌝ }
+{
+    let found = find(file, number);
+    match found {
+        Found::Frame(strided) => {
+            let extent = row_extent(strided, row);
+            *start = extent.start;
+            extent.length as i64
+        }
+        Found::Refused(refusal) => refused(refusal),
+    }
+}
+
+// Carries a spool to the other layout.
+#[no_mangle]
+pub extern "C" fn kiosk_relayout(file: &[u8], dst: &mut [u8], place: &mut usize) -> i64
+    ensures { λ r. ⌜ Gives (relayoutSays (now (file .entry)) (length (now (dst .entry)))) (relaid (now (file .entry))) r (now (dst .entry)) (now (dst .exit)) (now (place .entry)) (now (place .exit)) ⌝ }
+{
+    let answer = relayout(file, dst);
+    answered(answer, place)
 }
 
 // Lays out a spool of records. Their offsets are not looked at.

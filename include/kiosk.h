@@ -14,15 +14,15 @@
  * refused with 11. A buffer of length 0 is neither read nor written.
  *
  * `place` and `places` are written by the refusals that have a place, and otherwise keep what they
- * held. `clipped` is written where a conversion to sRGB is accepted, and `four` and `sums` where stickers
- * are; otherwise they keep what they held.
+ * held. `clipped` is written where a conversion to sRGB is accepted, `four` and `sums` where stickers
+ * are, and `start` where a row's frame is found; otherwise they keep what they held.
  *
  * What no function can check, and each relies on:
  * - No pointer is null, not even that of an empty buffer. Each points to as much as its length or
  *   its type says, aligned as C asks.
  * - What a call writes overlaps nothing else that it is given. It writes destinations, and what
- *   place, clipped, again, again_place, answers, places, pixel, four, sums, shop, table, next, record
- *   and text point to.
+ *   place, clipped, again, again_place, answers, places, pixel, four, sums, shop, table, next, record,
+ *   start and text point to.
  * - A buffer is shorter than 2^63 bytes.
  * - During a call nobody else writes what the call is given, or reads what it writes.
  *
@@ -56,12 +56,16 @@ enum kiosk_refusal {
     KIOSK_SAMPLE_TOO_GREAT = 12,         /* a sample above the greatest of its depth; place: its byte offset, and
                                             for a code of the 16 tints see kiosk_stickers */
     KIOSK_CHROMA_ZERO = 13,              /* a chroma of code 0; place: its byte offset */
-    KIOSK_TOTAL_TOO_LONG = 14,           /* a spool longer than 4,294,967,295 bytes */
+    KIOSK_TOTAL_TOO_LONG = 14,           /* a spool that would be longer than 4,294,967,295 bytes */
     KIOSK_INPUT_TOO_LONG = 15,           /* a file too long for the listing: only its text says so */
     KIOSK_NOT_WHOLE_PIXELS = 16,         /* the source is whole samples, and not whole pixels */
     KIOSK_NOT_FINITE = 17,               /* a tint's channel that is infinite or not a number; place: its number, 0 to 2 */
     KIOSK_NO_BUDGET = 18,                /* a budget of 0: no choice may be looked at */
-    KIOSK_TOO_MANY_PIXELS = 19           /* a picture of more than 65,536 pixels for stickers */
+    KIOSK_TOO_MANY_PIXELS = 19,          /* a picture of more than 65,536 pixels for stickers */
+    KIOSK_WRONG_RECORD_SIZE = 20,        /* a strided spool whose header has another number than 20 for the size of
+                                            its records */
+    KIOSK_WRONG_STRIDE = 21              /* a stride below a row's own bytes; for kiosk_relayout also gaps between
+                                            rows, which a plain spool cannot have */
 };
 
 /* What a frame's pixels are (rule 7.3). */
@@ -73,7 +77,7 @@ enum kiosk_kind {
     KIOSK_SYCC = 5         /* 8 bits: the standard's sRGB YCC, in the same order */
 };
 
-/* A frame's record, with the 16 bytes that it has in a spool file: the machine is little-endian. */
+/* A frame's record, with the 16 bytes that it has in a plain spool: the machine is little-endian. */
 struct kiosk_record {
     uint32_t offset; /* of the frame's pixels, from the start of the file */
     uint16_t width;
@@ -84,9 +88,22 @@ struct kiosk_record {
     uint32_t order;
 };
 
+/* A frame's record with its stride: the 20 bytes that it has in a strided spool. */
+struct kiosk_strided_record {
+    uint32_t offset; /* of the frame's pixels, from the start of the file */
+    uint16_t width;
+    uint16_t height;
+    uint8_t kind;
+    uint8_t bits;
+    uint16_t copies;
+    uint32_t order;
+    uint32_t stride; /* the bytes from the start of a row to the start of the next */
+};
+
 /* ---- Pictures (rule 4). Conversions give the pixel count, or refuse with 9, 10, 16, 11, 12 or 13, in the
  * order of rule 4.2. Of 8-bit sRGB and sYCC any length is whole samples: 16, and never 10; nor do their
- * samples get 12. Only luma and chroma get 13. ---- */
+ * samples get 12. Only luma and chroma get 13. No conversion knows of gaps: a frame that has some between its
+ * rows is converted row by row (kiosk_row). ---- */
 
 /* Converts 8-bit sRGB to e-sRGB of the given depth. */
 int64_t kiosk_from_srgb(uint32_t depth, const uint8_t *src, size_t src_len,
@@ -190,26 +207,51 @@ int64_t kiosk_tint_light(double red, double green, double blue, uint16_t pixel[3
 int64_t kiosk_stickers(const uint8_t *src, size_t src_len, const uint16_t tints[KIOSK_TINT_CODES], size_t budget,
                        uint8_t *dst, size_t dst_len, uint8_t four[4], uint32_t sums[2], size_t *place);
 
-/* ---- Spool files (rule 7) ---- */
+/* ---- Spool files (rule 7), of two layouts, told apart by the first two bytes. Where these are 65,535 the spool is
+ * strided: its header has 16 bytes, its records have 20, and a record's stride leaves gaps between the rows where it
+ * is above the bytes that a row's pixels take. Every other file is plain: a header of 12 bytes, records of 16, and no
+ * gaps. All functions that read a spool take both. ---- */
 
 /* Opens a spool: gives the frame count, and *shop and *table (the offset of the record table). Refuses
- * with 1 to 4, and then both keep what they held. */
+ * with 1, 2, 20, 3 or 4, in this order, and then both keep what they held. Only a strided spool gets 20. */
 int64_t kiosk_open(const uint8_t *file, size_t file_len, uint16_t *shop, uint32_t *table);
 
 /* Finds frame `number`, from 0: gives the length in bytes of its pixels, which start at file +
- * record->offset. Refuses with 1 to 8, and then the record is all zeros. */
+ * record->offset. That is up to the end of the last row's pixels, with all gaps before it. Refuses as kiosk_open
+ * does, then with 5, 6, 7, 21 or 8, in this order, and then the record is all zeros. Only a strided spool gets 21. */
 int64_t kiosk_find(const uint8_t *file, size_t file_len, size_t number, struct kiosk_record *record);
 
+/* Finds a frame as kiosk_find does, with its stride: in a plain spool the bytes that a row's pixels take. */
+int64_t kiosk_find_strided(const uint8_t *file, size_t file_len, size_t number,
+                           struct kiosk_strided_record *record);
+
 /* One step of a walk over the frames: finds frame *next as kiosk_find does. *next is 0 at first; it
- * grows by one at each frame, also at one refused with 6 to 8, and stays after 1 to 5. */
+ * grows by one at each frame, also at one refused with 6, 7, 21 or 8, and stays after 1, 2, 20, 3, 4 or 5. */
 int64_t kiosk_step(const uint8_t *file, size_t file_len, size_t *next, struct kiosk_record *record);
 
-/* Lays out a spool in dst: writes the header and the record table, with the pixels of the frames one
+/* The same step with the record of kiosk_find_strided. */
+int64_t kiosk_step_strided(const uint8_t *file, size_t file_len, size_t *next,
+                           struct kiosk_strided_record *record);
+
+/* Row `row` of frame `number`, both from 0: gives the length in bytes of its pixels, which start at file + *start.
+ * From the frame's height on a row is empty: the length is 0, and *start is 0. Refuses as kiosk_find does, and then
+ * *start keeps what it held. */
+int64_t kiosk_row(const uint8_t *file, size_t file_len, size_t number, size_t row, size_t *start);
+
+/* Lays out a plain spool in dst: writes the header and the record table, with the pixels of the frames one
  * after another behind it, and leaves the pixel bytes as found. The records' own offsets are ignored,
  * and records_len is the number of records. Gives the total length. Refuses with 3, with 6 or 7,
  * whose place is the number of the record from 0, with 14 or 11. */
 int64_t kiosk_lay_out(const struct kiosk_record *records, size_t records_len, uint16_t shop,
                       uint8_t *dst, size_t dst_len, size_t *place);
+
+/* Writes a spool in the other layout to dst: a plain one strided, and a strided one plain. Shop, frame count and
+ * records stay, but for offsets and strides: the table is right behind the header, then come the pixels of the frames
+ * in their order, without gaps, also where frames shared bytes. Gives the total length, which is that of header and
+ * table (16 and 20 bytes a record, or 12 and 16) and of width x height pixels of each frame. Refuses as kiosk_open
+ * does; with 6, 7, 21 or 8 of the first record that deserves one, whose place is its number from 0; then with 14 or
+ * 11. A frame of a strided spool with two rows or more and a stride above the bytes of a row gets 21 too. */
+int64_t kiosk_relayout(const uint8_t *file, size_t file_len, uint8_t *dst, size_t dst_len, size_t *place);
 
 /* The bytes to lend for a listing. Every listing fits. */
 #define KIOSK_LISTING_ROOM 16384

@@ -6,6 +6,7 @@
 use crate::{Conversion, Record, TINT_CODES};
 
 mod c {
+    use super::StridedRecord;
     use crate::{Record, TINT_CODES};
 
     /// A conversion that names one depth.
@@ -134,17 +135,31 @@ mod c {
         ) -> i64;
         pub fn kiosk_open(file: *const u8, file_len: usize, shop: *mut u16, table: *mut u32)
             -> i64;
-        pub fn kiosk_find(
+        pub fn kiosk_find_strided(
             file: *const u8,
             file_len: usize,
             number: usize,
-            record: *mut Record,
+            record: *mut StridedRecord,
         ) -> i64;
-        pub fn kiosk_step(
+        pub fn kiosk_step_strided(
             file: *const u8,
             file_len: usize,
             next: *mut usize,
-            record: *mut Record,
+            record: *mut StridedRecord,
+        ) -> i64;
+        pub fn kiosk_row(
+            file: *const u8,
+            file_len: usize,
+            number: usize,
+            row: usize,
+            start: *mut usize,
+        ) -> i64;
+        pub fn kiosk_relayout(
+            file: *const u8,
+            file_len: usize,
+            dst: *mut u8,
+            dst_len: usize,
+            place: *mut usize,
         ) -> i64;
         pub fn kiosk_lay_out(
             records: *const Record,
@@ -341,20 +356,39 @@ pub fn open(file: &[u8]) -> (i64, u16, u32) {
     (answer, shop, table)
 }
 
+/// A record with its stride, as the library writes it.
+#[repr(C)]
+#[derive(Clone, Copy, Default)]
+pub struct StridedRecord {
+    pub record: Record,
+    pub stride: u32,
+}
+
+// As in C, there is no padding between the two.
+const _: () = assert!(size_of::<StridedRecord>() == 20);
+
 /// The length of a frame's pixels or a refusal, and the record.
-pub fn find(file: &[u8], number: usize) -> (i64, Record) {
-    let mut record = Record::default();
-    // SAFETY: the pointer and length are those of a slice; a record is 16 bytes, and any bytes are one.
-    let answer = unsafe { c::kiosk_find(file.as_ptr(), file.len(), number, &mut record) };
+pub fn find(file: &[u8], number: usize) -> (i64, StridedRecord) {
+    let (f, n, mut record) = (file.as_ptr(), file.len(), StridedRecord::default());
+    // SAFETY: the pointer and length are those of a slice; a record is 20 bytes, and any bytes are one.
+    let answer = unsafe { c::kiosk_find_strided(f, n, number, &mut record) };
     (answer, record)
 }
 
 /// As `find`, and moves the number on.
-pub fn step(file: &[u8], next: &mut usize) -> (i64, Record) {
-    let mut record = Record::default();
+pub fn step(file: &[u8], next: &mut usize) -> (i64, StridedRecord) {
+    let (f, n, mut record) = (file.as_ptr(), file.len(), StridedRecord::default());
     // SAFETY: as of `find`.
-    let answer = unsafe { c::kiosk_step(file.as_ptr(), file.len(), next, &mut record) };
+    let answer = unsafe { c::kiosk_step_strided(f, n, next, &mut record) };
     (answer, record)
+}
+
+/// The length of a row or a refusal, and where the row starts.
+pub fn row(file: &[u8], number: usize, row: usize) -> (i64, usize) {
+    let mut start = 0;
+    // SAFETY: the pointer and length are those of a slice, and the other is that of a local.
+    let answer = unsafe { c::kiosk_row(file.as_ptr(), file.len(), number, row, &mut start) };
+    (answer, start)
 }
 
 pub fn lay_out(records: &[Record], shop: u16, dst: &mut [u8]) -> Given {
@@ -362,6 +396,12 @@ pub fn lay_out(records: &[Record], shop: u16, dst: &mut [u8]) -> Given {
     // SAFETY: a record is 16 bytes with no padding, as in C, and the length counts records; the slice does
     // not overlap the destination.
     placed(|place| unsafe { c::kiosk_lay_out(r, n, shop, d, m, place) })
+}
+
+pub fn relayout(file: &[u8], dst: &mut [u8]) -> Given {
+    let (f, n, d, m) = (file.as_ptr(), file.len(), dst.as_mut_ptr(), dst.len());
+    // SAFETY: the pointers and lengths are those of two slices that do not overlap, and of a local.
+    placed(|place| unsafe { c::kiosk_relayout(f, n, d, m, place) })
 }
 
 pub fn listing(file: &[u8]) -> Vec<u8> {

@@ -7,8 +7,9 @@
 mod calls;
 mod refusal;
 
-use calls::Given;
+use calls::{Given, StridedRecord};
 pub use refusal::{Fault, Refusal};
+use std::borrow::Cow;
 
 /// The conversions. A depth may be any number; 10, 12 and 16 are offered.
 #[derive(Clone, Copy, Debug, PartialEq, Eq)]
@@ -198,7 +199,7 @@ pub fn stickers(
     })
 }
 
-/// A frame's record, with the layout that it has in a spool file.
+/// A frame's record, with the bytes that it has in a plain spool; in a strided one the stride follows them.
 #[repr(C)]
 #[derive(Clone, Copy, Debug, Default, PartialEq, Eq)]
 pub struct Record {
@@ -225,7 +226,7 @@ pub struct Contents {
     pub table: u32,
 }
 
-/// Opens a spool file.
+/// Opens a spool file, plain or strided: the first two bytes of a strided one are 65,535.
 pub fn open(file: &[u8]) -> Result<Contents, Refusal> {
     let (answer, shop, table) = calls::open(file);
     let count = refusal::judge(answer, None)?;
@@ -236,21 +237,64 @@ pub fn open(file: &[u8]) -> Result<Contents, Refusal> {
 #[derive(Clone, Copy, Debug, PartialEq, Eq)]
 pub struct Frame<'a> {
     pub record: Record,
+    /// The bytes from the start of a row to the start of the next: in a plain spool those of a row's pixels.
+    pub stride: u32,
+    /// From the first row to the end of the last row's pixels, with the gaps between rows if there are any.
     pub pixels: &'a [u8],
 }
 
-fn frame_in(file: &[u8], answer: i64, record: Record) -> Result<Frame<'_>, Refusal> {
+impl<'a> Frame<'a> {
+    /// The bytes that a row's pixels take.
+    pub fn row_bytes(&self) -> usize {
+        self.pixels.len() - (usize::from(self.record.height) - 1) * self.stride as usize
+    }
+
+    /// The bytes that the pixels take without gaps.
+    pub fn packed_bytes(&self) -> usize {
+        self.row_bytes() * usize::from(self.record.height)
+    }
+
+    /// The pixels of one row after another, without the gaps behind them.
+    pub fn rows(&self) -> impl Iterator<Item = &'a [u8]> {
+        let bytes = self.row_bytes();
+        let strides = self.pixels.chunks(self.stride as usize);
+        strides.map(move |row| &row[..bytes])
+    }
+
+    /// The pixels without gaps, as [`convert`] takes them: those of the file where it has no gaps, or else a copy.
+    pub fn packed(&self) -> Cow<'a, [u8]> {
+        if self.pixels.len() == self.packed_bytes() {
+            return Cow::Borrowed(self.pixels);
+        }
+        Cow::Owned(self.rows().collect::<Vec<_>>().concat())
+    }
+}
+
+fn frame_in(file: &[u8], answer: i64, found: StridedRecord) -> Result<Frame<'_>, Refusal> {
     let length = refusal::judge(answer, None)?;
+    let StridedRecord { record, stride } = found;
     let start = record.offset as usize;
-    // The library has seen that the pixels are inside the file.
-    let pixels = &file[start..start + length];
-    Ok(Frame { record, pixels })
+    Ok(Frame {
+        record,
+        stride,
+        // The library has seen that the pixels are inside the file.
+        pixels: &file[start..start + length],
+    })
 }
 
 /// Finds a frame of a spool file. Frames count from 0.
 pub fn find(file: &[u8], number: usize) -> Result<Frame<'_>, Refusal> {
     let (answer, record) = calls::find(file, number);
     frame_in(file, answer, record)
+}
+
+/// A row of a frame: the part of the file with its pixels. Frames and rows count from 0. From the frame's height on a
+/// row is the empty part at the file's start.
+pub fn row(file: &[u8], number: usize, row: usize) -> Result<&[u8], Refusal> {
+    let (answer, start) = calls::row(file, number, row);
+    let length = refusal::judge(answer, None)?;
+    // As in `frame_in`.
+    Ok(&file[start..start + length])
 }
 
 /// The frames of a spool file one after another.
@@ -270,19 +314,48 @@ impl<'a> Frames<'a> {
         self.next
     }
 
-    /// The next frame. A frame refused by itself (6 to 8) is passed; a file that does not open, and the end
-    /// of its frames, are stayed at.
+    /// The next frame. A frame refused by itself (6, 7, 21 or 8) is passed; a file that does not open, and the
+    /// end of its frames, are stayed at.
     pub fn step(&mut self) -> Result<Frame<'a>, Refusal> {
         let (answer, record) = calls::step(self.file, &mut self.next);
         frame_in(self.file, answer, record)
     }
 }
 
-/// Lays out a spool in `dst` and gives its total length: the header and the record table are written, the
+/// Lays out a plain spool in `dst` and gives its total length: the header and the record table are written, the
 /// pixels are placed behind them in the records' order, and the pixel bytes stay as found. The records'
 /// own offsets are ignored.
 pub fn lay_out(records: &[Record], shop: u16, dst: &mut [u8]) -> Result<usize, Refusal> {
     counted(calls::lay_out(records, shop, dst))
+}
+
+/// A spool in the other layout: a plain one strided, a strided one plain. Its table is right behind the header, then
+/// the pixels of the frames follow one after another, without gaps. A frame at fault is refused with its number as
+/// place, and so is one of a strided spool that has gaps between its rows.
+pub fn relayout(file: &[u8]) -> Result<Vec<u8>, Refusal> {
+    // A file that is refused, or whose frames are too long for a spool, is so with any destination.
+    let length = relayout_length(file).unwrap_or(0);
+    let mut spool = vec![0; length];
+    relayout_into(file, &mut spool)?;
+    Ok(spool)
+}
+
+/// As [`relayout`], in a destination of exactly the length that it takes, which it gives.
+pub fn relayout_into(file: &[u8], dst: &mut [u8]) -> Result<usize, Refusal> {
+    counted(calls::relayout(file, dst))
+}
+
+/// The length that a spool has in the other layout, if it is one that a header can hold.
+fn relayout_length(file: &[u8]) -> Option<usize> {
+    let strided = file.starts_with(&[0xff; 2]);
+    let (header, record) = if strided { (12, 16) } else { (16, 20) };
+    let count = open(file).ok()?.count;
+    let mut length = header + record * count;
+    let mut frames = Frames::new(file);
+    for _ in 0..count {
+        length += frames.step().ok()?.packed_bytes();
+    }
+    (length <= u32::MAX as usize).then_some(length)
 }
 
 /// The most bytes of a file that is listed (rule 9.1).

@@ -25,11 +25,13 @@ pub enum Fault {
     NotFinite,
     NoBudget,
     TooManyPixels,
+    WrongRecordSize,
+    WrongStride,
 }
 
 impl Fault {
     /// All faults, each at its number less one.
-    pub const ALL: [Fault; 19] = [
+    pub const ALL: [Fault; 21] = [
         Fault::TooShort,
         Fault::WrongFileLength,
         Fault::TooManyFrames,
@@ -49,6 +51,8 @@ impl Fault {
         Fault::NotFinite,
         Fault::NoBudget,
         Fault::TooManyPixels,
+        Fault::WrongRecordSize,
+        Fault::WrongStride,
     ];
 
     /// The number of the refusal.
@@ -82,6 +86,10 @@ impl Fault {
             Fault::NotFinite => "a channel of the tint is infinite or not a number",
             Fault::NoBudget => "a budget of 0 lets no choice be looked at",
             Fault::TooManyPixels => "a picture for stickers has at most 65,536 pixels",
+            Fault::WrongRecordSize => "the header has another size of records than 20 bytes",
+            Fault::WrongStride => {
+                "the stride is below a row's own bytes, or leaves gaps where none can be"
+            }
         }
     }
 }
@@ -90,7 +98,7 @@ impl Fault {
 #[derive(Clone, Copy, Debug, PartialEq, Eq)]
 pub struct Refusal {
     pub fault: Fault,
-    /// The byte offset of a sample, the number of a record in its list, or that of a tint's channel. For a code of the
+    /// The byte offset of a sample, the number of a record, or that of a tint's channel. For a code of the
     /// 16 tints of [`crate::stickers`] it is the picture's length plus the code's number, 0 to 47.
     pub place: Option<usize>,
 }
@@ -112,9 +120,10 @@ impl fmt::Display for Refusal {
         write!(f, "refusal {}: {}", self.fault.number(), self.fault.words())?;
         match (self.place, self.fault) {
             (None, _) => Ok(()),
-            (Some(place), Fault::UnknownKind | Fault::WrongSize) => {
-                write!(f, " (record {place})")
-            }
+            (
+                Some(place),
+                Fault::UnknownKind | Fault::WrongSize | Fault::WrongStride | Fault::PixelsOutside,
+            ) => write!(f, " (record {place})"),
             (Some(place), Fault::NotFinite) => {
                 let name = ["red", "green", "blue"].get(place).unwrap_or(&"unknown");
                 write!(f, " (channel {place}, {name})")
@@ -180,6 +189,30 @@ mod tests {
             words(Fault::TooManyPixels, None),
             "refusal 19: a picture for stickers has at most 65,536 pixels"
         );
+        assert_eq!(
+            words(Fault::WrongRecordSize, None),
+            "refusal 20: the header has another size of records than 20 bytes"
+        );
+    }
+
+    /// A frame that is found has no place of its own; a list and a spool in another layout have the record's.
+    #[test]
+    fn words_of_records() {
+        for (fault, words) in [
+            (
+                Fault::WrongStride,
+                "refusal 21: the stride is below a row's own bytes, or leaves gaps where none can be",
+            ),
+            (
+                Fault::PixelsOutside,
+                "refusal 8: the pixels are not inside the file behind the header",
+            ),
+        ] {
+            assert_eq!(Refusal { fault, place: None }.to_string(), words);
+            let place = Some(3);
+            let placed = Refusal { fault, place }.to_string();
+            assert_eq!(placed, format!("{words} (record 3)"));
+        }
     }
 
     #[test]

@@ -1,5 +1,5 @@
 //! The kiosk command: lists, checks, converts, compares and previews the frames of a spool file, chooses stickers for
-//! them, and converts tints.
+//! them, writes a spool in the other layout, and converts tints.
 
 #![forbid(unsafe_code)]
 
@@ -29,6 +29,7 @@ usage: kiosk list FILE
        kiosk preview FILE FRAME --out FILE.png
        kiosk stickers FILE FRAME --tints FILE --out FILE [--budget N]
                       [--preview FILE.png]
+       kiosk relayout FILE --out FILE
        kiosk tint --code R,G,B | --nonlinear R,G,B | --light R,G,B
 
 list      prints a heading and a line for each frame of a spool file, or a line
@@ -38,7 +39,8 @@ check     prints a line for each frame: the refusal that it gets, or that it is
           sound and how many of its pixels have a colour that sRGB cannot hold,
           with a channel darker than black or lighter than white. Status 1 if a
           frame is refused
-convert   writes a spool with the one frame, converted; with --raw only its pixels.
+convert   writes a plain spool with the one frame, converted; with --raw only its
+          pixels.
           FORM is srgb, esrgb10, esrgb12, esrgb16, lumachroma10, lumachroma12,
           lumachroma16, esycc10, esycc12, esycc16, sycc, light10, light12 or
           light16. At a smaller depth a code becomes the nearest. Light is written
@@ -59,10 +61,18 @@ stickers  chooses four of 16 tints for a frame of at most 65,536 pixels: those f
           are 48 codes of 12-bit e-sRGB in a text file, three for each, with white
           space or commas between them; # begins a comment. N is how many of the
           1820 choices are looked at, if not all
+relayout  writes the spool in the other layout: a plain one strided, without gaps,
+          and a strided one plain, which is refused if a frame has gaps between its
+          rows
 tint      prints a colour as a pixel of 12-bit e-sRGB: three codes from 0 to 4095.
           Codes of 8-bit sRGB are from 0 to 255. Nonlinear numbers have black at 0
           and white at 1, light has reference white at 1, and both may be any
           finite number: what a code cannot hold is clipped
+
+A spool is plain, or strided: then its first two bytes are 65535, and each frame
+has a stride, the bytes from one row to the next, which may leave gaps between
+rows. Gaps are left out of what is converted, and a byte of a frame that is named
+in an error is counted without them.
 
 Frames count from 0. The exit status is 0, 1 where something is refused or
 cannot be read or written, and 2 for a wrong command line.
@@ -207,6 +217,11 @@ fn run(words: &[OsString]) -> Result<(), Failure> {
     run_command(command, &Words::sorted(rest)?)
 }
 
+/// The commands, for those that are given the wrong words.
+const COMMANDS: [&str; 8] = [
+    "list", "check", "compare", "preview", "convert", "stickers", "relayout", "tint",
+];
+
 fn run_command(command: &OsStr, words: &Words) -> Result<(), Failure> {
     match (command.to_str(), words.plain.as_slice()) {
         (Some("list"), [file]) => {
@@ -220,16 +235,17 @@ fn run_command(command: &OsStr, words: &Words) -> Result<(), Failure> {
         (Some(command @ ("compare" | "preview" | "convert" | "stickers")), [file, frame]) => {
             run_for_frame(command, Path::new(file), frame, words)
         }
+        (Some("relayout"), [file]) => {
+            words.only(&["--out"])?;
+            relayout(Path::new(file), words.out()?)
+        }
         (Some("tint"), []) => {
             words.only(&tint::OPTIONS)?;
             let (option, value) = words.tint()?;
             tint(option, value)
         }
-        (Some("list" | "check" | "compare" | "preview" | "convert" | "stickers" | "tint"), _) => {
-            Err(Failure::usage(format!(
-                "{} wants other words",
-                command.display()
-            )))
+        (Some(command), _) if COMMANDS.contains(&command) => {
+            Err(Failure::usage(format!("{command} wants other words")))
         }
         _ => Err(Failure::usage(format!(
             "unknown command {}",
@@ -354,14 +370,15 @@ fn convert(
     let (frame, place) = found(path, &file, number)?;
     let refused = |refusal| Failure::about(&place, refusal);
     let from = Form::of(&frame.record).map_err(refused)?;
+    let pixels = frame.packed();
     let form = match target {
         Target::Light(depth) => {
-            let light = form::light(from, depth, frame.pixels).map_err(refused)?;
+            let light = form::light(from, depth, &pixels).map_err(refused)?;
             return save(out, &light);
         }
         Target::Picture(form) => form,
     };
-    let picture = form::converted(from, form, frame.pixels).map_err(refused)?;
+    let picture = form::converted(from, form, &pixels).map_err(refused)?;
     if raw {
         save(out, &picture.pixels)?;
     } else {
@@ -380,7 +397,7 @@ fn compare_runs(path: &Path, number: usize) -> Result<(), Failure> {
     let file = read(path)?;
     let (frame, place) = found(path, &file, number)?;
     let text = Form::of(&frame.record)
-        .and_then(|form| compare::report(form, frame.pixels))
+        .and_then(|form| compare::report(form, &frame.packed()))
         .map_err(|refusal| Failure::about(&place, refusal))?;
     print(&text)
 }
@@ -389,11 +406,16 @@ fn preview(path: &Path, number: usize, out: &Path) -> Result<(), Failure> {
     let file = read(path)?;
     let (frame, place) = found(path, &file, number)?;
     let picture = Form::of(&frame.record)
-        .and_then(|form| form::converted(form, Form::Srgb, frame.pixels))
+        .and_then(|form| form::converted(form, Form::Srgb, &frame.packed()))
         .map_err(|refusal| Failure::about(&place, refusal))?;
     let png = png::encoded(frame.record.width, frame.record.height, &picture.pixels);
     save(out, &png)?;
     tell_clipped(&place, &frame.record, picture.clipped)
+}
+
+fn relayout(path: &Path, out: &Path) -> Result<(), Failure> {
+    let spool = kiosk::relayout(&read(path)?).map_err(|refusal| Failure::about(path, refusal))?;
+    save(out, &spool)
 }
 
 fn tint(option: &str, value: &OsStr) -> Result<(), Failure> {

@@ -26,7 +26,7 @@ pub fn run(path: &Path, number: usize, asked: Asked) -> Result<(), Failure> {
     let (frame, place) = found(path, &file, number)?;
     let refused = |refusal| Failure::about(&place, refusal);
     let picture = Form::of(&frame.record)
-        .and_then(|form| form::codes(form, DEPTH, frame.pixels))
+        .and_then(|form| form::codes(form, DEPTH, &frame.packed()))
         .map_err(refused)?;
     let mut numbers = vec![0; picture.len() / 6];
     let chosen =

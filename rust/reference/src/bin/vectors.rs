@@ -20,13 +20,13 @@ fn spool_with(count: u16, width: u16, length: usize) -> Vec<u8> {
 /// The file samples/two-frames.spool, but for its pixels.
 fn two_frames() -> Vec<u8> {
     let first = spool::Record {
-        offset: 0,
         width: 2,
         height: 1,
         kind: 1,
         bits: 8,
         copies: 1,
         order: 501,
+        ..spool::Record::default()
     };
     let second = spool::Record {
         width: 1,

@@ -87,9 +87,7 @@ impl Fault {
             Fault::NoBudget => "a budget of 0 lets no choice be looked at",
             Fault::TooManyPixels => "a picture for stickers has at most 65,536 pixels",
             Fault::WrongRecordSize => "the header has another size of records than 20 bytes",
-            Fault::WrongStride => {
-                "the stride is below a row's own bytes, or leaves gaps where none can be"
-            }
+            Fault::WrongStride => "the stride is below a row's own bytes",
         }
     }
 }
@@ -120,10 +118,14 @@ impl fmt::Display for Refusal {
         write!(f, "refusal {}: {}", self.fault.number(), self.fault.words())?;
         match (self.place, self.fault) {
             (None, _) => Ok(()),
-            (
-                Some(place),
-                Fault::UnknownKind | Fault::WrongSize | Fault::WrongStride | Fault::PixelsOutside,
-            ) => write!(f, " (record {place})"),
+            // Only a spool on its way to the other layout has a place of this.
+            (Some(place), Fault::WrongStride) => write!(
+                f,
+                ", or leaves gaps that a plain spool cannot have (record {place})"
+            ),
+            (Some(place), Fault::UnknownKind | Fault::WrongSize | Fault::PixelsOutside) => {
+                write!(f, " (record {place})")
+            }
             (Some(place), Fault::NotFinite) => {
                 let name = ["red", "green", "blue"].get(place).unwrap_or(&"unknown");
                 write!(f, " (channel {place}, {name})")
@@ -195,24 +197,22 @@ mod tests {
         );
     }
 
-    /// A frame that is found has no place of its own; a list and a spool in another layout have the record's.
+    /// A frame that is not found has no place; a record of a list, or of a spool on its way to the other layout, has.
     #[test]
     fn words_of_records() {
-        for (fault, words) in [
-            (
-                Fault::WrongStride,
-                "refusal 21: the stride is below a row's own bytes, or leaves gaps where none can be",
-            ),
-            (
-                Fault::PixelsOutside,
-                "refusal 8: the pixels are not inside the file behind the header",
-            ),
-        ] {
-            assert_eq!(Refusal { fault, place: None }.to_string(), words);
-            let place = Some(3);
-            let placed = Refusal { fault, place }.to_string();
-            assert_eq!(placed, format!("{words} (record 3)"));
-        }
+        let words = |fault, place| Refusal { fault, place }.to_string();
+        let outside = "refusal 8: the pixels are not inside the file behind the header";
+        assert_eq!(words(Fault::PixelsOutside, None), outside);
+        assert_eq!(
+            words(Fault::PixelsOutside, Some(3)),
+            format!("{outside} (record 3)")
+        );
+        let stride = "refusal 21: the stride is below a row's own bytes";
+        assert_eq!(words(Fault::WrongStride, None), stride);
+        assert_eq!(
+            words(Fault::WrongStride, Some(3)),
+            format!("{stride}, or leaves gaps that a plain spool cannot have (record 3)")
+        );
     }
 
     #[test]

@@ -4,7 +4,7 @@
 #![forbid(unsafe_code)]
 
 use reference::buffers::{Conversion, Converted};
-use reference::spool::Record;
+use reference::spool::{Layout, Record};
 use std::fmt::Debug;
 
 /// SplitMix64: the same numbers at every run.
@@ -52,7 +52,7 @@ pub const PAIRS: [(u8, u8); 11] = [
     (5, 8),
 ];
 
-/// A record that neither 6 nor 7 refuses, of a few pixels.
+/// A record that neither 6 nor 7 refuses, of a few pixels. Its offset and stride may be anything.
 pub fn sound_record(random: &mut Random) -> Record {
     let (kind, bits) = random.pick(&PAIRS);
     Record {
@@ -63,7 +63,49 @@ pub fn sound_record(random: &mut Random) -> Record {
         bits,
         copies: random.number() as u16,
         order: random.number() as u32,
+        stride: random.number() as u32,
     }
+}
+
+/// The same with a stride that is a row's own bytes or a few more.
+pub fn with_gaps(record: Record, random: &mut Random) -> Record {
+    Record {
+        stride: (record.row_bytes() + random.below(4)) as u32,
+        ..record
+    }
+}
+
+/// A spool with these records, whose pixels follow the table one frame after another, with gaps as the strides say.
+/// Pixels and gaps are any bytes.
+pub fn spool_file(layout: Layout, records: &[Record], shop: u16, random: &mut Random) -> Vec<u8> {
+    let mut end = (layout.header() + layout.record() * records.len()) as u64;
+    let mut table = Vec::new();
+    for record in records {
+        let placed = Record {
+            offset: end as u32,
+            ..*record
+        };
+        end = placed.pixel_end();
+        table.extend(placed.write(layout));
+    }
+    let mut file = layout.write_header(records.len() as u16, shop, end as u32);
+    file.extend(table);
+    let pixels = random.bytes(end as usize - file.len());
+    file.extend(pixels);
+    file
+}
+
+/// Puts a number of `N` bytes into a file, and leaves out what does not fit.
+pub fn put<const N: usize>(file: &mut [u8], at: usize, bytes: [u8; N]) {
+    for (place, byte) in file.iter_mut().skip(at).zip(bytes) {
+        *place = byte;
+    }
+}
+
+/// Puts the file's own length into its header.
+pub fn put_length(file: &mut [u8]) {
+    let length = file.len() as u32;
+    put(file, 8, length.to_le_bytes());
 }
 
 const GUARD: usize = 24;

@@ -11,7 +11,7 @@ use std::time::Instant;
 /// A part of the tests: what it compares, and the function that gives how many.
 type Part = (&'static str, fn() -> u64);
 
-const PARTS: [Part; 30] = [
+const PARTS: [Part; 39] = [
     (
         "samples: every code of every depth",
         parts::pictures::every_sample,
@@ -118,7 +118,7 @@ const PARTS: [Part; 30] = [
         parts::stickers::refusals,
     ),
     (
-        "spools laid out, found, walked, listed, damaged and cut",
+        "spools laid out, found, walked, listed, relaid, damaged and cut",
         parts::spools::spools,
     ),
     (
@@ -128,6 +128,42 @@ const PARTS: [Part; 30] = [
     (
         "lists of records laid out, with faults",
         parts::spools::layouts,
+    ),
+    (
+        "spools of both layouts, each byte damaged",
+        parts::strided::every_byte,
+    ),
+    (
+        "spools of both layouts, several bytes damaged",
+        parts::strided::several_bytes,
+    ),
+    (
+        "spools of both layouts, cut and made longer",
+        parts::strided::every_length,
+    ),
+    (
+        "headers of both layouts, and files shorter than these",
+        parts::strided::headers,
+    ),
+    (
+        "strides at their limits, and pixels at the file's end",
+        parts::strided::strides,
+    ),
+    (
+        "strided spools with several faults, and their order",
+        parts::strided::faults_in_order,
+    ),
+    (
+        "spools in the other layout and back, with frames over each other",
+        parts::strided::there_and_back,
+    ),
+    (
+        "spools of both layouts with no frame, the most and one more",
+        parts::strided::fewest_and_most,
+    ),
+    (
+        "spools that the other layout makes too long",
+        parts::strided::longest,
     ),
 ];
 

@@ -3,14 +3,14 @@
 
 #![forbid(unsafe_code)]
 
-use outside::{sound_record, Random};
-use reference::spool::{lay_out, listing, Record};
+use outside::{sound_record, spool_file, with_gaps, Random};
+use reference::spool::{listing, Layout, Record};
 use std::fs::{self, File};
 use std::path::Path;
 use std::process::{Command, Stdio};
 
 /// Files, under the line that stands over each listing in listings.txt.
-const SAMPLES: [(&str, &[u8]); 8] = [
+const SAMPLES: [(&str, &[u8]); 14] = [
     (
         "a good frame, then one refused by 6, a good one, one each by 7 and 8, a good one",
         b"\x06\x00\x07\x00\x0c\x00\x00\x00\x6f\x00\x00\x00\
@@ -54,6 +54,36 @@ const SAMPLES: [(&str, &[u8]); 8] = [
     (
         "a table past the file: 4",
         b"\x01\x00\x07\x00\x0c\x00\x00\x00\x0c\x00\x00\x00",
+    ),
+    (
+        "strided: a frame with a gap, one refused by 21, a row with a long stride, one refused by 8, a good one",
+        b"\xff\xff\x07\x00\x10\x00\x00\x00\x7b\x00\x00\x00\x05\x00\x14\x00\
+          \x74\x00\x00\x00\x01\x00\x02\x00\x01\x08\x01\x00\x01\x00\x00\x00\x04\x00\x00\x00\
+          \x74\x00\x00\x00\x01\x00\x02\x00\x01\x08\x01\x00\x02\x00\x00\x00\x02\x00\x00\x00\
+          \x78\x00\x00\x00\x01\x00\x01\x00\x01\x08\x01\x00\x03\x00\x00\x00\xff\xff\xff\xff\
+          \x75\x00\x00\x00\x01\x00\x02\x00\x01\x08\x01\x00\x04\x00\x00\x00\x04\x00\x00\x00\
+          \x75\x00\x00\x00\x01\x00\x02\x00\x01\x08\x01\x00\x05\x00\x00\x00\x03\x00\x00\x00\
+          \x01\x02\x03\x04\x05\x06\x07",
+    ),
+    (
+        "strided, no frames",
+        b"\xff\xff\x07\x00\x10\x00\x00\x00\x10\x00\x00\x00\x00\x00\x14\x00",
+    ),
+    (
+        "strided, shorter than a header: 1",
+        b"\xff\xff\x07\x00\x10\x00\x00\x00\x0f\x00\x00\x00\x00\x00\x14",
+    ),
+    (
+        "strided, 256 records of 16 bytes: 20",
+        b"\xff\xff\x07\x00\x10\x00\x00\x00\x10\x00\x00\x00\x00\x01\x10\x00",
+    ),
+    (
+        "strided, 256 frames: 3",
+        b"\xff\xff\x07\x00\x10\x00\x00\x00\x10\x00\x00\x00\x00\x01\x14\x00",
+    ),
+    (
+        "strided, a table inside the header: 4",
+        b"\xff\xff\x07\x00\x0f\x00\x00\x00\x10\x00\x00\x00\x00\x00\x14\x00",
     ),
 ];
 
@@ -119,18 +149,25 @@ fn samples_as_stored() {
     assert_eq!(text, include_str!("listings.txt"));
 }
 
-/// Spools of random records, with a byte or two of header or table changed.
+/// Spools of random records in both layouts, with a byte or two of header or table changed.
 #[test]
 fn damaged_spools() {
     let mut random = Random::new(8);
-    for _ in 0..200 {
+    for round in 0..400 {
+        let layout = [Layout::Plain, Layout::Strided][round % 2];
         let frames = 1 + random.below(6) as usize;
-        let records: Vec<Record> = (0..frames).map(|_| sound_record(&mut random)).collect();
-        let pixels: u64 = records.iter().map(Record::pixel_bytes).sum();
-        let mut file = random.bytes(12 + 16 * frames + pixels as usize);
-        lay_out(&records, random.number() as u16, &mut file).expect("sound records");
+        let mut sound = || {
+            let record = sound_record(&mut random).gapless();
+            match layout {
+                Layout::Plain => record,
+                Layout::Strided => with_gaps(record, &mut random),
+            }
+        };
+        let records: Vec<Record> = (0..frames).map(|_| sound()).collect();
+        let mut file = spool_file(layout, &records, random.number() as u16, &mut random);
+        let behind = layout.header() + layout.record() * frames;
         for _ in 0..random.below(3) {
-            let at = random.below(12 + 16 * frames as u64) as usize;
+            let at = random.below(behind as u64) as usize;
             file[at] = random.number() as u8;
         }
         list(&file, "damaged");
@@ -149,13 +186,14 @@ fn limits() {
         copies: u16::MAX,
         order: u32::MAX,
         offset: 10_000,
-    };
-    for length in [65_534, 65_535, 65_536, 65_537, 65_538, 70_000, 1 << 20] {
-        let mut file = vec![0; 12];
-        file[0] = 255;
-        file[4] = 12;
-        file[8..12].copy_from_slice(&(length as u32).to_le_bytes());
-        file.extend(frame.write().repeat(255));
+        ..Record::default()
+    }
+    .gapless();
+    let lengths = [65_534, 65_535, 65_536, 65_537, 65_538, 70_000, 1 << 20];
+    let layouts = [Layout::Plain, Layout::Strided];
+    for (length, layout) in lengths.into_iter().flat_map(|n| layouts.map(|l| (n, l))) {
+        let mut file = layout.write_header(255, 0, length as u32);
+        file.extend(frame.write(layout).repeat(255));
         file.resize(length, 0);
         let printed = list(&file, "long");
         let lines = if length <= 65_536 { 1 + 255 } else { 1 };

@@ -307,25 +307,36 @@ pub fn lay_out(records: &[Record], shop: u16, dst: &mut [u8]) -> Result<usize, R
     Ok(total)
 }
 
-/// Writes a spool in the other layout. Accepted, it gives the total length.
-pub fn relayout(file: &[u8], dst: &mut [u8]) -> Result<usize, Refusal> {
-    let from = Layout::of(file);
+/// All records of a spool that can be written in the other layout.
+fn records_of(file: &[u8]) -> Result<Vec<Record>, Refusal> {
+    let layout = Layout::of(file);
     let contents = open(file)?;
     let records: Vec<Record> = (0..usize::from(contents.count))
         .map(|frame| record_of(file, &contents, frame))
         .collect();
     // A plain spool has no gaps to begin with.
-    let gaps_allowed = from == Layout::Plain;
+    let gaps_allowed = layout == Layout::Plain;
     for (place, record) in records.iter().enumerate() {
         record
-            .check_in(from, file.len(), gaps_allowed)
+            .check_in(layout, file.len(), gaps_allowed)
             .map_err(|number| Refusal::at(number, place))?;
     }
-    let total = total_of(from.other(), &records)?;
+    Ok(records)
+}
+
+/// The length of a spool in the other layout, or why it has none.
+pub fn relayout_length(file: &[u8]) -> Result<usize, Refusal> {
+    total_of(Layout::of(file).other(), &records_of(file)?)
+}
+
+/// Writes a spool in the other layout. Accepted, it gives the total length.
+pub fn relayout(file: &[u8], dst: &mut [u8]) -> Result<usize, Refusal> {
+    let total = relayout_length(file)?;
     if dst.len() != total {
         return Err(Refusal::plain(11));
     }
-    let head = head_of(from.other(), &records, contents.shop, total);
+    let records = records_of(file)?;
+    let head = head_of(Layout::of(file).other(), &records, open(file)?.shop, total);
     let pixels = records
         .iter()
         .flat_map(|record| &file[record.offset as usize..record.pixel_end() as usize]);

@@ -1,7 +1,8 @@
 //! Spool files.
 
-use outside::{by_both, said, sound_record, Random, PAIRS};
+use outside::{by_both, put_length, said, sound_record, Random, PAIRS};
 use reference::spool::{self, Contents, Record};
+use std::ops::Range;
 
 fn of_library(record: &Record) -> kiosk::Record {
     kiosk::Record {
@@ -15,7 +16,7 @@ fn of_library(record: &Record) -> kiosk::Record {
     }
 }
 
-fn of_reference(record: &kiosk::Record) -> Record {
+fn of_reference(record: &kiosk::Record, stride: u32) -> Record {
     Record {
         offset: record.offset,
         width: record.width,
@@ -24,25 +25,31 @@ fn of_reference(record: &kiosk::Record) -> Record {
         bits: record.bits,
         copies: record.copies,
         order: record.order,
+        stride,
     }
 }
 
-/// A frame's record, and that its pixels are the part of the file that the record names.
+/// Is this part of a file the one that the range says, and not only one with the same bytes?
+fn is_part(file: &[u8], part: &[u8], range: Range<usize>) -> bool {
+    std::ptr::eq(part, &file[range])
+}
+
+/// A frame's record, and that its pixels are the part of the file that the record names, gaps included.
 fn found(
     file: &[u8],
     answer: Result<kiosk::Frame, kiosk::Refusal>,
 ) -> Result<Record, kiosk::Refusal> {
     let frame = answer?;
-    let record = of_reference(&frame.record);
-    let start = record.offset as usize;
-    let expected = &file[start..start + record.pixel_bytes() as usize];
-    assert!(std::ptr::eq(frame.pixels, expected), "where the pixels lie");
+    let record = of_reference(&frame.record, frame.stride);
+    let pixels = record.offset as usize..record.pixel_end() as usize;
+    assert!(is_part(file, frame.pixels, pixels), "where the pixels lie");
+    assert_eq!(frame.row_bytes() as u64, record.row_bytes());
+    assert_eq!(frame.packed_bytes() as u64, record.pixel_bytes());
     Ok(record)
 }
 
-/// Opens a file, finds frames of it, walks it and lists it, by the library and by the reference. Gives how many
-/// answers were compared.
-fn compare(file: &[u8]) -> u64 {
+/// Opens a file, by the library and by the reference. Gives the frame count, or 0.
+fn compare_open(file: &[u8]) -> usize {
     let opened = said(kiosk::open(file).map(|c| Contents {
         count: c.count as u16,
         shop: c.shop,
@@ -50,18 +57,101 @@ fn compare(file: &[u8]) -> u64 {
     }));
     let expected = spool::open(file);
     assert_eq!(opened, expected, "open {file:?}");
-    let count = expected.map_or(0, |contents| usize::from(contents.count));
-    let numbers = (0..count + 2).chain([255, 256, 1 << 32, usize::MAX]);
-    let mut compared = 1;
-    for number in numbers {
-        let answer = said(found(file, kiosk::find(file, number)));
-        assert_eq!(
-            answer,
-            spool::find(file, number),
-            "find {number} in {file:?}"
+    expected.map_or(0, |contents| usize::from(contents.count))
+}
+
+/// Rows of a frame: all, if there are few, or else the first and the last; and some behind the last.
+fn compare_rows(file: &[u8], number: usize, height: usize) -> u64 {
+    let first = 0..height.min(8);
+    let rows = first.chain([height.saturating_sub(1), height, height + 1, usize::MAX]);
+    let mut compared = 0;
+    for row in rows {
+        let answer = said(kiosk::row(file, number, row));
+        let expected = spool::row(file, number, row);
+        let same = match (&answer, &expected) {
+            (Ok(part), Ok(range)) => is_part(file, part, range.clone()),
+            (Err(refusal), Err(expected)) => refusal == expected,
+            _ => false,
+        };
+        assert!(
+            same,
+            "row {row} of frame {number} is {answer:?}, not {expected:?}, in {file:?}"
         );
         compared += 1;
     }
+    compared
+}
+
+/// The rows that a frame gives one after another are its rows, and without gaps it holds just these.
+fn compare_packed(file: &[u8], number: usize) {
+    let Ok(frame) = kiosk::find(file, number) else {
+        return;
+    };
+    let rows: Vec<&[u8]> = frame.rows().collect();
+    assert_eq!(rows.len(), usize::from(frame.record.height));
+    for (k, row) in rows.iter().enumerate() {
+        let range = spool::row(file, number, k).expect("the frame is found");
+        assert!(is_part(file, row, range), "row {k} of {number} in {file:?}");
+    }
+    assert_eq!(*frame.packed(), *rows.concat());
+}
+
+/// The start of a file that may be long.
+fn start_of(file: &[u8]) -> &[u8] {
+    &file[..file.len().min(400)]
+}
+
+/// Writes a file in the other layout, into the length that it takes and into others. Gives how many answers were
+/// compared.
+pub fn compare_relayout(file: &[u8]) -> u64 {
+    let length = spool::relayout_length(file);
+    let rooms = match length {
+        Ok(length) => vec![length, length + 1, length - 1, 0],
+        Err(_) => vec![0, file.len()],
+    };
+    for &room in &rooms {
+        // Bytes that differ from place to place, and from those of most files.
+        let before: Vec<u8> = (0..room).map(|k| (k * 7 + 0x3b) as u8).collect();
+        let (refused, after) = by_both(
+            &before,
+            0xa5,
+            |dst| kiosk::relayout_into(file, dst),
+            |dst| spool::relayout(file, dst),
+            || format!("relayout {:?}", start_of(file)),
+        );
+        if refused.is_some() {
+            assert_eq!(after, before, "a refused call has written");
+        }
+        if length == Ok(room) {
+            assert_eq!(kiosk::relayout(file), Ok(after));
+        }
+    }
+    if let Err(refusal) = length {
+        assert_eq!(said(kiosk::relayout(file)), Err(refusal));
+    }
+    rooms.len() as u64 + 1
+}
+
+/// Opens a file, finds frames and rows of it, walks it, lists it and writes it in the other layout, by the library and by
+/// the reference. Gives how many answers were compared.
+pub fn compare(file: &[u8]) -> u64 {
+    let count = compare_open(file);
+    let numbers = (0..count + 2).chain([255, 256, 1 << 32, usize::MAX]);
+    let mut compared = 1 + compare_relayout(file);
+    for number in numbers {
+        let answer = said(found(file, kiosk::find(file, number)));
+        let expected = spool::find(file, number);
+        assert_eq!(answer, expected, "find {number} in {file:?}");
+        let height = expected.map_or(0, |record| usize::from(record.height));
+        compared += 1 + compare_rows(file, number, height);
+        compare_packed(file, number);
+    }
+    compared + compare_walk(file, count)
+}
+
+/// Walks a file to the end and beyond, and lists it.
+fn compare_walk(file: &[u8], count: usize) -> u64 {
+    let mut compared = 0;
     let mut frames = kiosk::Frames::new(file);
     let mut next = 0;
     for _ in 0..count + 2 {
@@ -133,10 +223,8 @@ pub fn spools() -> u64 {
             let mut cut = file[..length].to_vec();
             compared += compare(&cut);
             // With the length in the header put right, the table or the pixels reach past the file.
-            if length >= 12 {
-                cut[8..12].copy_from_slice(&(length as u32).to_le_bytes());
-                compared += compare(&cut);
-            }
+            put_length(&mut cut);
+            compared += compare(&cut);
         }
     }
     for _ in 0..100_000 {

@@ -630,6 +630,183 @@ static void spools_of_standard_ycc(void)
     CHECK(record.kind == 0);
 }
 
+/* Two rows of two sRGB pixels with a gap of two bytes between them, and a row of 12-bit e-sRGB whose stride of 64 leads
+ * nowhere: samples/gapped.spool. */
+static const uint8_t gapped[76] = {
+    255, 255, 7, 0, 16, 0, 0, 0, 76, 0, 0, 0, 2, 0, 20, 0,
+    56, 0, 0, 0, 2, 0, 2, 0, KIOSK_SRGB, 8, 1, 0, 246, 1, 0, 0, 8, 0, 0, 0,
+    70, 0, 0, 0, 1, 0, 1, 0, KIOSK_ESRGB, 12, 3, 0, 246, 1, 0, 0, 64, 0, 0, 0,
+    255, 0, 0, 0, 255, 0, 238, 238, 0, 0, 255, 255, 255, 255,
+    0, 6, 0, 10, 248, 13,
+};
+
+/* samples/two-frames.spool, which is plain. */
+static const uint8_t two_frames[56] = {
+    2, 0, 7, 0, 12, 0, 0, 0, 56, 0, 0, 0,
+    44, 0, 0, 0, 2, 0, 1, 0, KIOSK_SRGB, 8, 1, 0, 245, 1, 0, 0,
+    50, 0, 0, 0, 1, 0, 1, 0, KIOSK_ESRGB, 10, 3, 0, 245, 1, 0, 0,
+    1, 2, 3, 4, 5, 6, 128, 1, 128, 1, 128, 1,
+};
+
+/* Is row `row` of a frame so long, and does it start there? */
+static int row_is(const uint8_t *file, size_t file_len, size_t number, size_t row, int64_t length, size_t at)
+{
+    size_t start[3] = {77, 77, 77};
+
+    return kiosk_row(file, file_len, number, row, start + 1) == length && start[1] == at && start[0] == 77
+           && start[2] == 77;
+}
+
+static void strided_spools(void)
+{
+    struct kiosk_strided_record record;
+    uint16_t shop = 0;
+    uint32_t table = 0;
+    size_t next = 0;
+
+    CHECK(sizeof record == 20);
+    CHECK(kiosk_open(gapped, sizeof gapped, &shop, &table) == 2 && shop == 7 && table == 16);
+    CHECK(kiosk_find_strided(gapped, sizeof gapped, 0, &record) == 14);
+    CHECK(record.offset == 56 && record.width == 2 && record.height == 2 && record.kind == KIOSK_SRGB);
+    CHECK(record.bits == 8 && record.copies == 1 && record.order == 502 && record.stride == 8);
+    CHECK(kiosk_step_strided(gapped, sizeof gapped, &next, &record) == 14 && next == 1 && record.stride == 8);
+    CHECK(kiosk_step_strided(gapped, sizeof gapped, &next, &record) == 6 && next == 2 && record.stride == 64);
+    CHECK(kiosk_step_strided(gapped, sizeof gapped, &next, &record) == -KIOSK_NO_SUCH_FRAME && next == 2);
+    CHECK(record.offset == 0 && record.order == 0 && record.stride == 0);
+
+    CHECK(row_is(gapped, sizeof gapped, 0, 0, 6, 56) && row_is(gapped, sizeof gapped, 0, 1, 6, 64));
+    CHECK(row_is(gapped, sizeof gapped, 0, 2, 0, 0) && row_is(gapped, sizeof gapped, 0, SIZE_MAX, 0, 0));
+    CHECK(row_is(gapped, sizeof gapped, 1, 0, 6, 70) && row_is(gapped, sizeof gapped, 1, 1, 0, 0));
+    CHECK(row_is(gapped, sizeof gapped, 2, 0, -KIOSK_NO_SUCH_FRAME, 77));
+    CHECK(row_is(gapped, sizeof gapped - 1, 0, 2, -KIOSK_WRONG_FILE_LENGTH, 77));
+    CHECK(row_is(gapped, 15, 0, 0, -KIOSK_TOO_SHORT, 77));
+}
+
+/* The frame and the record behind a number, and a step from there, with the stride and without: the answers, the first
+ * 16 bytes of the records and the next number are the same, and a refused record is zeros. */
+static int found_alike(const uint8_t *file, size_t file_len, size_t number)
+{
+    static const struct kiosk_strided_record zeros = {0, 0, 0, 0, 0, 0, 0, 0};
+    struct kiosk_strided_record found, stepped;
+    struct kiosk_record plain, plain_stepped;
+    size_t next = number, plain_next = number;
+    int64_t answer;
+
+    memset(&found, 0x5a, sizeof found);
+    memset(&plain, 0x5b, sizeof plain);
+    answer = kiosk_find_strided(file, file_len, number, &found);
+    if (kiosk_find(file, file_len, number, &plain) != answer
+        || kiosk_step_strided(file, file_len, &next, &stepped) != answer
+        || kiosk_step(file, file_len, &plain_next, &plain_stepped) != answer)
+        return 0;
+    return memcmp(&plain, &found, sizeof plain) == 0 && memcmp(&stepped, &found, sizeof found) == 0
+           && memcmp(&plain_stepped, &plain, sizeof plain) == 0 && plain_next == next
+           && (answer >= 0 || memcmp(&found, &zeros, sizeof zeros) == 0);
+}
+
+/* The same of each frame of a file with each byte damaged, and of the file cut short. */
+static void found_alike_everywhere(const uint8_t *file, size_t file_len)
+{
+    uint8_t damaged[76];
+
+    for (size_t at = 0; at < file_len; at++)
+        for (unsigned change = 0; change < 256; change += change < 4 ? 1 : 7) {
+            memcpy(damaged, file, file_len);
+            damaged[at] = (uint8_t)(damaged[at] + change);
+            for (size_t number = 0; number < 3; number++)
+                CHECK(found_alike(damaged, file_len, number) && found_alike(file, at, number));
+        }
+}
+
+/* Is a way to the other layout refused with this number, at this place if it has one, and is all else as it was? */
+static int relayout_refused(int number, size_t at, const uint8_t *file, size_t file_len, size_t room)
+{
+    uint8_t dst[80];
+    size_t place = 77;
+
+    memset(dst, 0x5a, sizeof dst);
+    if (kiosk_relayout(file, file_len, dst, room, &place) != -number || place != at)
+        return 0;
+    for (size_t k = 0; k < sizeof dst; k++)
+        if (dst[k] != 0x5a)
+            return 0;
+    return 1;
+}
+
+/* The two frames, whose second row starts in the gap if the stride is 6: 12 and 6 bytes of pixels. */
+static void other_layout(void)
+{
+    uint8_t strided[76], plain[63], again[75], zero[16];
+    struct kiosk_strided_record record;
+    size_t place = 77;
+
+    memcpy(strided, gapped, sizeof gapped);
+    strided[32] = 6;
+    memset(plain, 0x5a, sizeof plain);
+    memset(again, 0x5a, sizeof again);
+    CHECK(kiosk_relayout(strided, sizeof strided, plain, 62, &place) == 62);
+    CHECK(plain[0] == 2 && plain[2] == 7 && plain[4] == 12 && plain[8] == 62 && plain[62] == 0x5a);
+    CHECK(memcmp(plain + 44, gapped + 56, 12) == 0 && memcmp(plain + 56, gapped + 70, 6) == 0);
+    CHECK(kiosk_find_strided(plain, 62, 1, &record) == 6 && record.offset == 56 && record.stride == 6);
+    CHECK(kiosk_relayout(plain, 62, again, 74, &place) == 74);
+    CHECK(again[74] == 0x5a && memcmp(again + 56, plain + 44, 18) == 0);
+    CHECK(kiosk_find_strided(again, 74, 0, &record) == 12 && record.offset == 56 && record.stride == 6);
+    CHECK(kiosk_find_strided(again, 74, 1, &record) == 6 && record.offset == 68 && record.stride == 6);
+    CHECK(record.kind == KIOSK_ESRGB && record.bits == 12 && record.copies == 3 && record.order == 502);
+
+    memcpy(zero, gapped, 16);
+    zero[8] = 16;
+    zero[12] = 0;
+    CHECK(kiosk_relayout(zero, 16, plain, 12, &place) == 12 && plain[0] == 0 && plain[8] == 12);
+    CHECK(kiosk_relayout(plain, 12, again, 16, &place) == 16 && memcmp(again, zero, 16) == 0);
+    CHECK(place == 77);
+}
+
+static void other_layout_refused(void)
+{
+    uint8_t file[76];
+
+    memcpy(file, gapped, sizeof gapped);
+    CHECK(relayout_refused(KIOSK_WRONG_STRIDE, 0, file, sizeof file, 62));
+    file[32] = 5;
+    CHECK(relayout_refused(KIOSK_WRONG_STRIDE, 0, file, sizeof file, 62));
+    file[32] = 6;
+    CHECK(relayout_refused(KIOSK_WRONG_DESTINATION_LENGTH, 77, file, sizeof file, 61));
+    CHECK(relayout_refused(KIOSK_WRONG_DESTINATION_LENGTH, 77, file, sizeof file, 63));
+    file[36] = 71;
+    CHECK(relayout_refused(KIOSK_PIXELS_OUTSIDE, 1, file, sizeof file, 62));
+    file[42] = 0;
+    CHECK(relayout_refused(KIOSK_WRONG_SIZE, 1, file, sizeof file, 62));
+    file[45] = 8;
+    CHECK(relayout_refused(KIOSK_UNKNOWN_KIND, 1, file, sizeof file, 62));
+    file[4] = 15;
+    CHECK(relayout_refused(KIOSK_TABLE_OUTSIDE, 77, file, sizeof file, 62));
+    file[13] = 1;
+    CHECK(relayout_refused(KIOSK_TOO_MANY_FRAMES, 77, file, sizeof file, 62));
+    file[14] = 16;
+    CHECK(relayout_refused(KIOSK_WRONG_RECORD_SIZE, 77, file, sizeof file, 62));
+    file[8] = 75;
+    CHECK(relayout_refused(KIOSK_WRONG_FILE_LENGTH, 77, file, sizeof file, 62));
+    CHECK(relayout_refused(KIOSK_TOO_SHORT, 77, file, 15, 62));
+}
+
+/* 255 frames that share the same 17 million bytes: their sum is too long for a spool. */
+static void other_layout_too_long(void)
+{
+    static uint8_t file[12 + 255 * 16 + 3 * 4096 * 1400];
+    const uint32_t start = 12 + 255 * 16, length = sizeof file;
+    const struct kiosk_record record = {start, 4096, 1400, KIOSK_SRGB, 8, 1, 501};
+    const uint8_t header[8] = {255, 0, 7, 0, 12, 0, 0, 0};
+
+    memcpy(file, header, sizeof header);
+    memcpy(file + 8, &length, 4);
+    for (size_t k = 0; k < 255; k++)
+        memcpy(file + 12 + 16 * k, &record, sizeof record);
+    CHECK(relayout_refused(KIOSK_TOTAL_TOO_LONG, 77, file, sizeof file, 62));
+    file[0] = 249;
+    CHECK(relayout_refused(KIOSK_WRONG_DESTINATION_LENGTH, 77, file, sizeof file, 62));
+}
+
 /* Are the text of a listing, its length and the bytes behind it, which were all 0x5a, as they must be? */
 static int lists(const uint8_t *file, size_t file_len, const char *expected)
 {
@@ -660,6 +837,9 @@ static void listings(void)
     longer[8] = 0;
     longer[10] = 1;
     CHECK(lists(longer, sizeof longer - 1, heading));
+    CHECK(lists(gapped, sizeof gapped, "frame order kind bits width height copies offset\n"
+                                       "0 502 1 8 2 2 1 56\n1 502 2 12 1 1 3 70\n"));
+    CHECK(lists(gapped, 15, "refused 1\n"));
 }
 
 int main(void)
@@ -680,6 +860,12 @@ int main(void)
     stickers_refused();
     spools();
     spools_of_standard_ycc();
+    strided_spools();
+    found_alike_everywhere(gapped, sizeof gapped);
+    found_alike_everywhere(two_frames, sizeof two_frames);
+    other_layout();
+    other_layout_refused();
+    other_layout_too_long();
     listings();
     printf("%d checks from C, %d failed\n", checks, failures);
     return failures != 0;

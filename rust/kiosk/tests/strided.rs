@@ -200,7 +200,11 @@ fn tells_of_wrong_strides_and_sizes_of_records() {
     assert_eq!(lines[1..], ["0 refused 21", "1 502 2 12 1 1 3 70"]);
     let checked = kiosk(&folder, &["check", "stride"]);
     let refusal = "refusal 21: the stride is below a row's own bytes";
-    assert!(text(&checked.stdout).starts_with(&format!("frame 0: {refusal}\n")));
+    let sound = "frame 1: sound, 0 of 1 pixels have a colour that sRGB cannot hold";
+    assert_eq!(
+        text(&checked.stdout),
+        format!("frame 0: {refusal}\n{sound}\n")
+    );
     assert_eq!(checked.status.code(), Some(1));
     let said = format!("kiosk: stride: frame 0: {refusal}\n");
     fails(&folder, &["compare", "stride", "0"], 1, &said);
@@ -270,22 +274,22 @@ fn refuses_the_other_layout() {
         &file[..15],
         "refusal 1: the spool is shorter than its header\n",
     );
-    // 255 frames over the same pixels.
-    let mut long = vec![255, 0, 7, 0, 12, 0, 0, 0];
+    let too_long = "refusal 14: the spool would be longer than 4,294,967,295 bytes\n";
+    refused("long", &long_together(), too_long);
+}
+
+/// A plain spool of 255 frames over the same 17,203,200 bytes.
+fn long_together() -> Vec<u8> {
     let start = 12 + 255 * 16;
     let length = start + 3 * 4096 * 1400;
-    long.extend((length as u32).to_le_bytes());
-    let record = [
-        &(start as u32).to_le_bytes()[..],
-        &[0, 16, 120, 5, 1, 8, 1, 0, 1, 0, 0, 0],
-    ];
-    long.extend(record.concat().repeat(255));
-    long.resize(length, 0);
-    refused(
-        "long",
-        &long,
-        "refusal 14: the spool would be longer than 4,294,967,295 bytes\n",
-    );
+    let mut file = vec![255, 0, 7, 0, 12, 0, 0, 0];
+    file.extend((length as u32).to_le_bytes());
+    // 4,096 times 1,400 pixels of sRGB; one copy, order 1.
+    let mut record = (start as u32).to_le_bytes().to_vec();
+    record.extend([0, 16, 120, 5, 1, 8, 1, 0, 1, 0, 0, 0]);
+    file.extend(record.repeat(255));
+    file.resize(length, 0);
+    file
 }
 
 #[test]

@@ -682,6 +682,26 @@ static void strided_spools(void)
     CHECK(row_is(gapped, 15, 0, 0, -KIOSK_TOO_SHORT, 77));
 }
 
+/* A step leaves a frame with a wrong stride behind, and stays at a header with another size of records. */
+static void strided_walk(void)
+{
+    struct kiosk_strided_record record;
+    struct kiosk_record plain;
+    uint8_t file[76];
+    size_t next = 0, plain_next = 0;
+
+    memcpy(file, gapped, sizeof gapped);
+    file[32] = 5;
+    CHECK(kiosk_step_strided(file, sizeof file, &next, &record) == -KIOSK_WRONG_STRIDE && next == 1);
+    CHECK(kiosk_step(file, sizeof file, &plain_next, &plain) == -KIOSK_WRONG_STRIDE && plain_next == 1);
+    CHECK(kiosk_step_strided(file, sizeof file, &next, &record) == 6 && next == 2 && record.offset == 70);
+    CHECK(kiosk_step(file, sizeof file, &plain_next, &plain) == 6 && plain_next == 2 && plain.offset == 70);
+    file[14] = 21;
+    next = plain_next = 1;
+    CHECK(kiosk_step_strided(file, sizeof file, &next, &record) == -KIOSK_WRONG_RECORD_SIZE && next == 1);
+    CHECK(kiosk_step(file, sizeof file, &plain_next, &plain) == -KIOSK_WRONG_RECORD_SIZE && plain_next == 1);
+}
+
 /* The frame and the record behind a number, and a step from there, with the stride and without: the answers, the first
  * 16 bytes of the records and the next number are the same, and a refused record is zeros. */
 static int found_alike(const uint8_t *file, size_t file_len, size_t number)
@@ -770,7 +790,13 @@ static void other_layout_refused(void)
     CHECK(relayout_refused(KIOSK_WRONG_STRIDE, 0, file, sizeof file, 62));
     file[32] = 5;
     CHECK(relayout_refused(KIOSK_WRONG_STRIDE, 0, file, sizeof file, 62));
+    file[16] = 15;
+    CHECK(relayout_refused(KIOSK_WRONG_STRIDE, 0, file, sizeof file, 62));
+    CHECK(row_is(file, sizeof file, 0, 0, -KIOSK_WRONG_STRIDE, 77));
     file[32] = 6;
+    CHECK(relayout_refused(KIOSK_PIXELS_OUTSIDE, 0, file, sizeof file, 62));
+    CHECK(row_is(file, sizeof file, 0, 0, -KIOSK_PIXELS_OUTSIDE, 77));
+    file[16] = 56;
     CHECK(relayout_refused(KIOSK_WRONG_DESTINATION_LENGTH, 77, file, sizeof file, 61));
     CHECK(relayout_refused(KIOSK_WRONG_DESTINATION_LENGTH, 77, file, sizeof file, 63));
     file[36] = 71;
@@ -861,6 +887,7 @@ int main(void)
     spools();
     spools_of_standard_ycc();
     strided_spools();
+    strided_walk();
     found_alike_everywhere(gapped, sizeof gapped);
     found_alike_everywhere(two_frames, sizeof two_frames);
     other_layout();

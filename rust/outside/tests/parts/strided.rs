@@ -401,47 +401,49 @@ fn sizes_of(layout: Layout, total: u64) -> Option<Vec<(u16, u16)>> {
     })
 }
 
+/// A spool with frames of these sizes, the largest first, which all start at the same byte.
+fn all_over_each_other(layout: Layout, sizes: &[(u16, u16)]) -> Vec<u8> {
+    let start = layout.header() + layout.record() * sizes.len();
+    let records = sizes.iter().map(|&(width, height)| Record {
+        offset: start as u32,
+        ..srgb(width, height)
+    });
+    let table: Vec<u8> = records.flat_map(|r| r.write(layout)).collect();
+    let (width, height) = sizes[0];
+    let length = start + srgb(width, height).pixel_bytes() as usize;
+    let mut file = layout.write_header(sizes.len() as u16, 7, length as u32);
+    file.extend(table);
+    file.resize(length, 0);
+    file
+}
+
 /// Frames that all lie over each other, so that a small file becomes as long as a spool can be, or longer. None of these
 /// is written: a destination of another length shows by its refusal which of the two it is.
 pub fn longest() -> u64 {
+    let totals = [
+        (LONGEST - 2, 11),
+        (LONGEST, 11),
+        (LONGEST + 1, 14),
+        (LONGEST + 3, 14),
+    ];
     let mut compared = 0;
-    for layout in BOTH {
-        for (total, refusal) in [
-            (LONGEST - 2, 11),
-            (LONGEST, 11),
-            (LONGEST + 1, 14),
-            (LONGEST + 3, 14),
-        ] {
-            let sizes = sizes_of(layout.other(), total).expect("sizes with this sum");
-            let header = layout.header();
-            let start = header + layout.record() * sizes.len();
-            let mut table = Vec::new();
-            for (width, height) in sizes.iter().copied() {
-                let record = Record {
-                    offset: start as u32,
-                    ..srgb(width, height)
-                };
-                table.extend(record.write(layout));
-            }
-            let length = start + 3 * 8_192 * usize::from(sizes[0].1);
-            let mut file = layout.write_header(sizes.len() as u16, 7, length as u32);
-            file.extend(table);
-            file.resize(length, 0);
-            let expected = reference::Refusal {
-                number: refusal,
-                place: None,
-            };
-            for room in [0, 60] {
-                let mut dst = vec![0x5a; room];
-                let refused = said(kiosk::relayout_into(&file, &mut dst));
-                assert_eq!(refused, Err(expected), "a total of {total}");
-                assert_eq!(spool::relayout(&file, &mut dst), Err(expected));
-                assert_eq!(dst, vec![0x5a; room]);
-                compared += 1;
-            }
-            if refusal == 14 {
-                compared += compare_relayout(&file);
-            }
+    for (layout, (total, number)) in BOTH.into_iter().flat_map(|l| totals.map(|t| (l, t))) {
+        let sizes = sizes_of(layout.other(), total).expect("sizes with this sum");
+        let file = all_over_each_other(layout, &sizes);
+        let expected = reference::Refusal {
+            number,
+            place: None,
+        };
+        for room in [0, 60] {
+            let mut dst = vec![0x5a; room];
+            let refused = said(kiosk::relayout_into(&file, &mut dst));
+            assert_eq!(refused, Err(expected), "a total of {total}");
+            assert_eq!(spool::relayout(&file, &mut dst), Err(expected));
+            assert_eq!(dst, vec![0x5a; room]);
+            compared += 1;
+        }
+        if number == 14 {
+            compared += compare_relayout(&file);
         }
     }
     compared

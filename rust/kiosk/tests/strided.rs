@@ -237,6 +237,11 @@ fn writes_the_other_layout() {
         relayout(&folder, "plain", "plain");
         assert_eq!(read(&folder, "plain"), strided);
     }
+    let sample = include_bytes!("../../../samples/two-frames.spool");
+    write(&folder, "plain", sample);
+    relayout(&folder, "plain", "there");
+    relayout(&folder, "there", "back");
+    assert_eq!(read(&folder, "back"), sample);
     // A row alone has no gap, whatever its stride.
     let pixels = [1, 2, 3, 4, 5, 6];
     let one_row = (1, 8, 2, pixels.to_vec());

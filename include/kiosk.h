@@ -249,8 +249,8 @@ int64_t kiosk_lay_out(const struct kiosk_record *records, size_t records_len, ui
  * records stay, but for offsets and strides: the table is right behind the header, then come the pixels of the frames
  * in their order, without gaps, also where frames shared bytes. Gives the total length, which is that of header and
  * table (16 and 20 bytes a record, or 12 and 16) and of width x height pixels of each frame. Refuses as kiosk_open
- * does; with 6, 7, 21 or 8 of the first record that deserves one, whose place is its number from 0; then with 14 or
- * 11. A frame of a strided spool with two rows or more and a stride above the bytes of a row gets 21 too. */
+ * does; with the first of 6, 7, 21 and 8 that the first record at fault deserves, whose place is its number from 0;
+ * then with 14 or 11. A frame of two rows or more whose stride is above the bytes of a row gets 21 too. */
 int64_t kiosk_relayout(const uint8_t *file, size_t file_len, uint8_t *dst, size_t dst_len, size_t *place);
 
 /* The bytes to lend for a listing. Every listing fits. */

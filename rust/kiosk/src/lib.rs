@@ -293,7 +293,7 @@ pub fn find(file: &[u8], number: usize) -> Result<Frame<'_>, Refusal> {
 pub fn row(file: &[u8], number: usize, row: usize) -> Result<&[u8], Refusal> {
     let (answer, start) = calls::row(file, number, row);
     let length = refusal::judge(answer, None)?;
-    // As in `frame_in`.
+    // The library has seen that the row is inside the file.
     Ok(&file[start..start + length])
 }
 

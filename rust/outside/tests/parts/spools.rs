@@ -2,6 +2,7 @@
 
 use outside::{by_both, put_length, said, sound_record, Random, PAIRS};
 use reference::spool::{self, Contents, Record};
+use std::borrow::Cow;
 use std::ops::Range;
 
 fn of_library(record: &Record) -> kiosk::Record {
@@ -93,7 +94,10 @@ fn compare_packed(file: &[u8], number: usize) {
         let range = spool::row(file, number, k).expect("the frame is found");
         assert!(is_part(file, row, range), "row {k} of {number} in {file:?}");
     }
-    assert_eq!(*frame.packed(), *rows.concat());
+    let packed = frame.packed();
+    assert_eq!(*packed, *rows.concat());
+    let has_gaps = rows.len() > 1 && frame.stride as usize > frame.row_bytes();
+    assert_eq!(matches!(packed, Cow::Owned(_)), has_gaps, "copied or not");
 }
 
 /// The start of a file that may be long.
@@ -107,7 +111,7 @@ pub fn compare_relayout(file: &[u8]) -> u64 {
     let length = spool::relayout_length(file);
     let rooms = match length {
         Ok(length) => vec![length, length + 1, length - 1, 0],
-        Err(_) => vec![0, file.len()],
+        Err(_) => vec![0, file.len().min(200)],
     };
     for &room in &rooms {
         // Bytes that differ from place to place, and from those of most files.

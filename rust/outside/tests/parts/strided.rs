@@ -314,7 +314,7 @@ fn shown(file: &[u8]) -> Vec<(kiosk::Record, Vec<u8>)> {
 pub fn there_and_back() -> u64 {
     let mut random = Random::new(36);
     let mut compared = 0;
-    for round in 0..4_000 {
+    for round in 0..2_000 {
         let layout = BOTH[round % 2];
         let count = random.below(6) as usize;
         let mut file = overlapping(layout, count, &mut random);

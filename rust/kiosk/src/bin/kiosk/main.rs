@@ -39,13 +39,12 @@ check     prints a line for each frame: the refusal that it gets, or that it is
           sound and how many of its pixels have a colour that sRGB cannot hold,
           with a channel darker than black or lighter than white. Status 1 if a
           frame is refused
-convert   writes a plain spool with the one frame, converted; with --raw only its
-          pixels.
-          FORM is srgb, esrgb10, esrgb12, esrgb16, lumachroma10, lumachroma12,
-          lumachroma16, esycc10, esycc12, esycc16, sycc, light10, light12 or
-          light16. At a smaller depth a code becomes the nearest. Light is written
-          raw, as signed 32-bit numbers of millionths of reference white, the low
-          byte first.
+convert   writes a plain spool with the one frame, converted, or with --raw only its
+          pixels. FORM is srgb, esrgb10, esrgb12, esrgb16, lumachroma10,
+          lumachroma12, lumachroma16, esycc10, esycc12, esycc16, sycc, light10,
+          light12 or light16. At a smaller depth a code becomes the nearest. Light is
+          written raw, as signed 32-bit numbers of millionths of reference white,
+          the low byte first.
           To srgb it says on standard error how many pixels sRGB cannot hold, if any
 compare   takes the frame through luma and chroma and back, one of sRGB or sYCC at
           each depth, and says how many channels come back equal, one less or one

@@ -118,7 +118,7 @@ const PARTS: [Part; 39] = [
         parts::stickers::refusals,
     ),
     (
-        "spools laid out, found, walked, listed, relaid, damaged and cut",
+        "spools laid out, found, walked, listed, written in the other layout, damaged and cut",
         parts::spools::spools,
     ),
     (

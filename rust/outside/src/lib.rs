@@ -75,6 +75,18 @@ pub fn with_gaps(record: Record, random: &mut Random) -> Record {
     }
 }
 
+/// Sound records of a layout, in a strided spool some with gaps. Their offsets may be anything.
+pub fn sound_records(layout: Layout, count: usize, random: &mut Random) -> Vec<Record> {
+    let mut sound = || {
+        let record = sound_record(random).gapless();
+        match layout {
+            Layout::Plain => record,
+            Layout::Strided => with_gaps(record, random),
+        }
+    };
+    (0..count).map(|_| sound()).collect()
+}
+
 /// A spool with these records, whose pixels follow the table one frame after another, with gaps as the strides say.
 /// Pixels and gaps are any bytes.
 pub fn spool_file(layout: Layout, records: &[Record], shop: u16, random: &mut Random) -> Vec<u8> {

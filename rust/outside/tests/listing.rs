@@ -3,7 +3,7 @@
 
 #![forbid(unsafe_code)]
 
-use outside::{sound_record, spool_file, with_gaps, Random};
+use outside::{sound_records, spool_file, Random};
 use reference::spool::{listing, Layout, Record};
 use std::fs::{self, File};
 use std::path::Path;
@@ -156,14 +156,7 @@ fn damaged_spools() {
     for round in 0..400 {
         let layout = [Layout::Plain, Layout::Strided][round % 2];
         let frames = 1 + random.below(6) as usize;
-        let mut sound = || {
-            let record = sound_record(&mut random).gapless();
-            match layout {
-                Layout::Plain => record,
-                Layout::Strided => with_gaps(record, &mut random),
-            }
-        };
-        let records: Vec<Record> = (0..frames).map(|_| sound()).collect();
+        let records = sound_records(layout, frames, &mut random);
         let mut file = spool_file(layout, &records, random.number() as u16, &mut random);
         let behind = layout.header() + layout.record() * frames;
         for _ in 0..random.below(3) {

@@ -1,7 +1,7 @@
 //! Strided spools, and both layouts carried to the other.
 
 use super::spools::{compare, compare_relayout};
-use outside::{put, put_length, said, sound_record, spool_file, with_gaps, Random};
+use outside::{put, put_length, said, sound_record, sound_records, spool_file, with_gaps, Random};
 use reference::spool::{self, Layout, Record};
 
 const BOTH: [Layout; 2] = [Layout::Plain, Layout::Strided];
@@ -18,19 +18,6 @@ fn srgb(width: u16, height: u16) -> Record {
         ..Record::default()
     }
     .gapless()
-}
-
-/// Sound records, of a strided spool some with gaps.
-fn records(layout: Layout, count: usize, random: &mut Random) -> Vec<Record> {
-    (0..count)
-        .map(|_| {
-            let record = sound_record(random).gapless();
-            match layout {
-                Layout::Plain => record,
-                Layout::Strided => with_gaps(record, random),
-            }
-        })
-        .collect()
 }
 
 fn number_of<T>(answer: Result<T, kiosk::Refusal>) -> Option<u8> {
@@ -53,7 +40,7 @@ pub fn every_byte() -> u64 {
     let mut random = Random::new(31);
     let mut compared = 0;
     for (layout, frames) in BOTH.into_iter().flat_map(|l| [0, 1, 3, 5].map(|n| (l, n))) {
-        let records = records(layout, frames, &mut random);
+        let records = sound_records(layout, frames, &mut random);
         let file = spool_file(layout, &records, 7, &mut random);
         assert_eq!(Layout::of(&file), layout);
         compared += compare(&file);
@@ -76,7 +63,7 @@ pub fn every_length() -> u64 {
     let mut random = Random::new(32);
     let mut compared = 0;
     for (layout, frames) in BOTH.into_iter().flat_map(|l| [0, 1, 4].map(|n| (l, n))) {
-        let records = records(layout, frames, &mut random);
+        let records = sound_records(layout, frames, &mut random);
         let file = spool_file(layout, &records, 7, &mut random);
         for length in 0..file.len() + 40 {
             let mut other = file.clone();
@@ -96,7 +83,7 @@ pub fn several_bytes() -> u64 {
     for round in 0..30_000 {
         let layout = BOTH[round % 2];
         let count = 1 + random.below(4) as usize;
-        let records = records(layout, count, &mut random);
+        let records = sound_records(layout, count, &mut random);
         let mut file = spool_file(layout, &records, random.number() as u16, &mut random);
         let behind = layout.header() + layout.record() * count;
         for _ in 0..1 + random.below(4) {

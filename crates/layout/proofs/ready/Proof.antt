@@ -1,5 +1,6 @@
 -- `layout::ready` meets its contract.
 -- Assumes nothing.
+use native.Mathlib.Omega.{arith}
 use mathlib.Core.Path.{ap, _∙_}
 use borrow.Author.Needs.{needs}
 use Rattle.refusal.specs.Answers.{said}
@@ -11,7 +12,7 @@ stop-requires : tie.Need-stop-requires
 stop-requires c κs = search needs
 
 returns : tie.Need-returns
-returns c = stop-state (c .before .before .before .args .dst .now) (c .stop .ensures) ∙ ready-too-many (c .before .before .before .args .count) (c .before .before .before .args .shop) (c .before .before .before .args .dst .now) (c .before .before .before .args .checked) (c .before .if1 .taken)
+returns c = stop-state (c .before .before .before .args .dst .now) (c .stop .ensures) ∙ ready-too-many (c .before .before .before .args .count) (c .before .before .before .args .shop) (c .before .before .before .args .dst .now) (c .before .before .before .args .checked) (omega (arith, c .before .if1 .taken))
 
 enum-known-answer : tie.Need-enum-known-answer
 enum-known-answer c = search needs
@@ -35,13 +36,13 @@ same-length : tie.Need-same-length
 same-length c = search needs
 
 returns-2 : tie.Need-returns-2
-returns-2 c = c .before .before .begin .ensures ∙ ready-begins (c .before .before .before .before .before .before .before .before .before .args .count) (c .before .before .before .before .before .before .before .before .before .args .shop) (c .before .before .before .before .before .before .before .before .before .args .dst .now) (c .before .before .before .before .before .before .before .before .before .args .checked) (c .before .before .before .before .before .before .before .if1 .left) _ (ap said (c .before .before .before .before .before .answer .given .1))
+returns-2 c = c .before .before .begin .ensures ∙ ready-begins (c .before .before .before .before .before .before .before .before .before .args .count) (c .before .before .before .before .before .before .before .before .before .args .shop) (c .before .before .before .before .before .before .before .before .before .args .dst .now) (c .before .before .before .before .before .before .before .before .before .args .checked) (omega (arith, c .before .before .before .before .before .before .before .if1 .left)) _ (ap said (c .before .before .before .before .before .answer .given .1))
 
 returns-3 : tie.Need-returns-3
-returns-3 c = rw (c .before .enum-told .given .1) at (stop-state (c .before .before .before .before .before .args .dst .now) (c .stop2 .ensures)) ∙ ready-begins (c .before .before .before .before .before .args .count) (c .before .before .before .before .before .args .shop) (c .before .before .before .before .before .args .dst .now) (c .before .before .before .before .before .args .checked) (c .before .before .before .if1 .left) _ (ap said (c .before .enum-told .given .1))
+returns-3 c = rw (c .before .enum-told .given .1) at (stop-state (c .before .before .before .before .before .args .dst .now) (c .stop2 .ensures)) ∙ ready-begins (c .before .before .before .before .before .args .count) (c .before .before .before .before .before .args .shop) (c .before .before .before .before .before .args .dst .now) (c .before .before .before .before .before .args .checked) (omega (arith, c .before .before .before .if1 .left)) _ (ap said (c .before .enum-told .given .1))
 
 returns-4 : tie.Need-returns-4
-returns-4 c = rw (c .before .enum-told2 .given .1) at (stop-state (c .before .before .before .before .before .args .dst .now) (c .stop3 .ensures)) ∙ ready-begins (c .before .before .before .before .before .args .count) (c .before .before .before .before .before .args .shop) (c .before .before .before .before .before .args .dst .now) (c .before .before .before .before .before .args .checked) (c .before .before .before .if1 .left) _ (ap said (c .before .enum-told2 .given .1))
+returns-4 c = rw (c .before .enum-told2 .given .1) at (stop-state (c .before .before .before .before .before .args .dst .now) (c .stop3 .ensures)) ∙ ready-begins (c .before .before .before .before .before .args .count) (c .before .before .before .before .before .args .shop) (c .before .before .before .before .before .args .dst .now) (c .before .before .before .before .before .args .checked) (omega (arith, c .before .before .before .if1 .left)) _ (ap said (c .before .enum-told2 .given .1))
 
 pub ready-spec : {M : Type 1} → statement M
 ready-spec =

@@ -1,7 +1,7 @@
 -- What stands between the two passes, from the tests that lead there.
 -- Assumes nothing.
 use Prim.Native.Nat.{ℕ, _+_, _*_, _≤_, _<_}
-use mathlib.Core.Path.{_≡_, ap, _∙_}
+use mathlib.Core.Path.{_≡_, ap, ap₂, _∙_}
 use mathlib.Core.Bool.{true, false}
 use mathlib.Core.List.{List, _++_}
 use lib.ListN.{length, take, drop}
@@ -10,11 +10,14 @@ use Rattle.refusal.specs.declared.Answer.{Answer}
 use Rattle.refusal.specs.declared.Answer.the-variants.{Done}
 use Rattle.refusal.specs.Answers.{Said, accepted, refused, said}
 use Rattle.records.specs.declared.Layout.{Layout}
-use Rattle.records.specs.Layout.{headerBytes, headerSize, recordSize}
+use Rattle.records.specs.Layout.{headerBytes, longHeader, headerSize, recordSize}
 use Rattle.records.specs.Faults.{frameLimit}
 use Rattle.layout.specs.declared.Progress.{Progress}
 use Rattle.layout.specs.LayOut.{pixelsFrom, headerFor, lengthLimit}
 use Rattle.layout.specs.HowLaidOut.{stateOf, stopped, begun, readied}
+use Rattle.records.specs.declared.Header.{Header}
+use Rattle.records.proofs.Sizes.{header-sizes}
+use Rattle.records.proofs.Layouts.{header-prefix}
 use Rattle.layout.proofs.Written.{copied}
 use Rattle.layout.proofs.Read.{header-length}
 
@@ -33,14 +36,18 @@ module _ (l : Layout) (count shop pixels : ℕ) (d : List ℕ) where
         → stateOf (record { layout = l; writing = true; answer = Done first }) d′ ≡ begun l count shop (accepted pixels) d
     begin-writes h f e = rw (f, e, le-ltb _ _ fits, eq-eqb _ _ h)
 
+-- There are as many bytes as the header has.
+pub header-fits : (l : Layout) (h : Header) {size : ℕ} {full : List ℕ} → size ≡ headerSize l → full ≡ longHeader l h → size ≤ length full
+header-fits l h e is = rw (e, is) (header-sizes l .1)
+
 -- The header's bytes, copied to the start.
 header-copied : (l : Layout) (count shop pixels : ℕ) (d full : List ℕ) {least size : ℕ} {d′ : List ℕ} → least ≡ headerSize l → size ≡ recordSize l
-    → take (headerSize l) full ≡ headerBytes l (record { count = count; shop = shop; table = least; length = least + size * count + pixels; size = size })
+    → full ≡ longHeader l (record { count = count; shop = shop; table = least; length = least + size * count + pixels; size = size })
     → d′ ≡ take (length (take least full)) (take least full) ++ drop (length (take least full)) d
     → d′ ≡ headerBytes l (headerFor l count shop (pixelsFrom l count + pixels)) ++ drop (headerSize l) d
 header-copied l count shop pixels d full {least} e f is copy =
     let head = headerBytes l (headerFor l count shop (pixelsFrom l count + pixels)) in
-    let front : take least full ≡ head = ap (λ (n : ℕ). take n full) e ∙ is ∙ rw (e, f) in
+    let front : take least full ≡ head = ap₂ take e is ∙ header-prefix l _ ∙ rw (e, f) in
     copied d {bytes = take least full} {b = head} front copy ∙ ap (λ (n : ℕ). head ++ drop n d) (header-length l (headerFor l count shop (pixelsFrom l count + pixels)))
 
 -- `begin`, by the sizes that it works out.
@@ -49,7 +56,7 @@ module _ (l : Layout) (count shop pixels : ℕ) (d : List ℕ) {least size : ℕ
   first-is = rw (e, f)
 
   pub begins : (full : List ℕ) {d′ : List ℕ} → least + size * count + pixels ≤ lengthLimit → length d ≡ least + size * count + pixels
-      → take (headerSize l) full ≡ headerBytes l (record { count = count; shop = shop; table = least; length = least + size * count + pixels; size = size })
+      → full ≡ longHeader l (record { count = count; shop = shop; table = least; length = least + size * count + pixels; size = size })
       → d′ ≡ take (length (take least full)) (take least full) ++ drop (length (take least full)) d
       → stateOf (record { writing = true; answer = Done (least + size * count); layout = l }) d′ ≡ begun l count shop (accepted pixels) d
   begins full small room is copy =

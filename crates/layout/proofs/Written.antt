@@ -1,6 +1,6 @@
 -- What storing a record and one record's visit leave.
 -- Assumes nothing.
-use Prim.Native.Nat.{ℕ, _+_, _-_, _≤_, _<_, min}
+use Prim.Native.Nat.{ℕ, _+_, _-_, _≤_, _<_}
 use native.Mathlib.Omega.{arith}
 use native.Mathlib.Nat.{le-of-eq, le-trans, le-add-right}
 use mathlib.Core.Path.{_≡_, refl, sym, ap, ap₂, _∙_}
@@ -49,12 +49,6 @@ record-length Strided s = refl
 -- The first bytes of a list: how many there are, and that they fit.
 pub prefix-length : (xs : List ℕ) {n : ℕ} → n ≤ length xs → n ≡ length (take n xs)
 prefix-length xs h = simp length-take (omega arith)
-
-pub prefix-there : (xs : List ℕ) {ys : List ℕ} {n m : ℕ} → take n xs ≡ ys → length ys ≡ n → m ≡ n → m ≤ length xs
-prefix-there xs {ys} {n} e long is =
-    let short : length (take n xs) ≡ n = ap length e ∙ long in
-    let least : min n (length xs) ≡ n = sym (length-take n xs) ∙ short in
-    rw is (omega (arith, least))
 
 pub prefix-short : (xs : List ℕ) (n room : ℕ) → n ≤ room → length (take n xs) ≤ room
 prefix-short xs n room h = simp length-take (omega arith)

@@ -12,10 +12,9 @@ use Rattle.records.specs.declared.FrameRecord.{FrameRecord}
 use Rattle.records.specs.declared.StridedRecord.{StridedRecord}
 use Rattle.records.specs.declared.Layout.{Layout}
 use Rattle.records.specs.declared.Layout.the-variants.{Plain, Strided}
-use Rattle.records.specs.Fields.{fieldBytes}
 use Rattle.records.specs.Pixels.{packed}
 use Rattle.records.proofs.Fields.{spelled}
-use Rattle.records.specs.Layout.{layoutOf, stridedMark, headerWidths, headerNumbers, headerSize, recordSize, headerBytes, recordBytes}
+use Rattle.records.specs.Layout.{layoutOf, stridedMark, headerSize, recordSize, headerBytes, longHeader, recordBytes}
 
 module _ (file : List ℕ) where
   pub too-short : length file < 2 → Plain ≡ layoutOf file
@@ -36,7 +35,7 @@ pub room-for : (size : Layout → ℕ) {l m : Layout} {need room : ℕ} → l �
 room-for size {room = room} e holds h = le-trans holds (subst (λ (x : Layout). size x ≤ room) e h)
 
 -- The plain header and the plain record are the first bytes of the strided ones.
-pub header-prefix : (l : Layout) (h : Header) → take (headerSize l) (fieldBytes (headerWidths Strided) (headerNumbers l h)) ≡ headerBytes l h
+pub header-prefix : (l : Layout) (h : Header) → take (headerSize l) (longHeader l h) ≡ headerBytes l h
 header-prefix Plain h = refl
 header-prefix Strided h = refl
 

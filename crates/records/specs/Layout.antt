@@ -72,6 +72,10 @@ recordNumbers s = frameNumbers (s .frame) ++ (s .stride ∷ [])
 abbrev pub headerBytes : Layout → Header → List ℕ
 headerBytes l h = fieldBytes (headerWidths l) (headerNumbers l h)
 
+-- A header's bytes and, where it is plain, those of the numbers that it does not say.
+abbrev pub longHeader : Layout → Header → List ℕ
+longHeader l h = fieldBytes (headerWidths Strided) (headerNumbers l h)
+
 abbrev pub recordBytes : Layout → StridedRecord → List ℕ
 recordBytes l s = fieldBytes (recordWidths l) (recordNumbers s)
 
@@ -102,6 +106,9 @@ withOffset at r = frameFrom (at ∷ drop 1 (frameNumbers r))
 unfoldable pub headerIn : Layout → List ℕ → Header
 headerIn l bytes = headerFrom l (numbersIn (headerWidths l) bytes)
 
+abbrev pub headerOf : List ℕ → Header
+headerOf file = headerIn (layoutOf file) file
+
 unfoldable pub recordIn : Layout → List ℕ → StridedRecord
 recordIn l bytes = recordFrom (numbersIn (recordWidths l) bytes)
 
@@ -111,9 +118,6 @@ frameIn bytes = frameFrom (numbersIn frameWidths bytes)
 
 abbrev pub strideIn : Layout → List ℕ → FrameRecord → ℕ
 strideIn l bytes r = getD (numbersIn (recordWidths l) bytes) 7 (rowBytes r)
-
-abbrev pub headerOf : List ℕ → Header
-headerOf file = headerIn (layoutOf file) file
 
 -- What reading a header gives, and reading a record at a place: nothing if some of its bytes are missing.
 abbrev pub ReadsHeader : Layout → List ℕ → HeaderRead → Type 0

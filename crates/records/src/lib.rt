@@ -16,7 +16,7 @@ ghost use Rattle.esrgb.specs.Depths.{offered};
 ghost use Rattle.numbers.specs.Bytes.{littleEndian};
 ghost use Rattle.refusal.specs.Answers.{verdict};
 ghost use Rattle.records.specs.declared.Layout.the-variants.{Plain, Strided};
-ghost use Rattle.records.specs.Layout.{headerSize, recordSize, firstNumber, layoutOf, otherLayout, noRecord, withOffset, headerIn, frameIn, strideIn, recordIn, headerBytes, recordBytes, ReadsHeader, ReadsRecord};
+ghost use Rattle.records.specs.Layout.{headerSize, recordSize, firstNumber, layoutOf, otherLayout, noRecord, withOffset, headerIn, frameIn, strideIn, recordIn, longHeader, recordBytes, ReadsHeader, ReadsRecord};
 ghost use Rattle.records.specs.Pixels.{rowBytes, pixelBytes, spanBytes, hasGaps, packed};
 ghost use Rattle.records.specs.Faults.{isPair, badSide, recordFault, strideFault};
 
@@ -269,9 +269,9 @@ pub fn read_record(layout: Layout, bytes: &[u8], at: usize) -> RecordRead
 
 // ---- as bytes
 
-// The bytes of a strided header, or, where the layout is plain, a plain header's and four more.
+// The bytes of a header. A plain one is the first 12; behind them stand the numbers that it does not say.
 pub fn header_bytes(layout: Layout, header: Header) -> [u8; STRIDED_HEADER_SIZE]
-    ensures { λ r. ⌜ take (headerSize layout) r ≡ headerBytes layout header ⌝ }
+    ensures { λ r. ⌜ r ≡ longHeader layout header ⌝ }
 {
     let first = two_bytes(first_number(layout, header.count));
     let shop = two_bytes(header.shop);

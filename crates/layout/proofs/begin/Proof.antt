@@ -10,9 +10,8 @@ use Rattle.records.specs.Faults.{frameLimit}
 use Rattle.records.proofs.Sizes.{record-sizes}
 use Rattle.layout.specs.LayOut.{lengthLimit, pixelsFrom}
 use Rattle.layout.proofs.Places.{place-small}
-use Rattle.layout.proofs.Written.{prefix-length, prefix-there, prefix-short}
-use Rattle.layout.proofs.Read.{header-length}
-use Rattle.layout.proofs.Begun.{stop-state, begin-too-long, begin-wrong-room, first-is, begins}
+use Rattle.layout.proofs.Written.{prefix-length, prefix-short}
+use Rattle.layout.proofs.Begun.{stop-state, header-fits, begin-too-long, begin-wrong-room, first-is, begins}
 use borrow.Author.Needs.{needs}
 use Rattle.layout.proofs.begin.Statement.{statement}
 use Rattle.layout.proofs.begin.Tie as tie
@@ -82,10 +81,10 @@ header-bytes-requires : tie.Need-header-bytes-requires
 header-bytes-requires c κs = search needs
 
 array-share-prefix-bytes : tie.Need-array-share-prefix-bytes
-array-share-prefix-bytes c = prefix-there (c .header-bytes .result) (c .header-bytes .ensures) (header-length (c .before .before .before .before .before .before .before .args .layout) _) (c .before .before .before .before .header-size .ensures)
+array-share-prefix-bytes c = header-fits (c .before .before .before .before .before .before .before .args .layout) _ (c .before .before .before .before .header-size .ensures) (c .header-bytes .ensures)
 
 slice-aggregate-copy : tie.Need-slice-aggregate-copy
-slice-aggregate-copy c = prefix-length (c .before .header-bytes .result) (prefix-there (c .before .header-bytes .result) (c .before .header-bytes .ensures) (header-length (c .before .before .before .before .before .before .before .before .args .layout) _) (c .before .before .before .before .before .header-size .ensures))
+slice-aggregate-copy c = prefix-length (c .before .header-bytes .result) (header-fits (c .before .before .before .before .before .before .before .before .args .layout) _ (c .before .before .before .before .before .header-size .ensures) (c .before .header-bytes .ensures))
 
 copy-requires : tie.Need-copy-requires
 copy-requires c κs = prefix-short (c .before .before .header-bytes .result) (c .before .before .before .before .before .before .header-size .result) (length (c .before .before .before .before .before .before .before .before .before .args .dst .now)) (omega (arith, c .before .before .before .if3 .left))

@@ -1,11 +1,8 @@
 -- `records::header_bytes` meets its contract: the bytes of each number, one number after another.
 -- Assumes nothing.
 use mathlib.Core.Path.{refl, ap, _∙_}
-use lib.ListN.{take}
 use Rattle.numbers.specs.Bytes.{lowBytes}
-use Rattle.records.specs.Layout.{headerSize}
 use Rattle.records.proofs.Fields.{joined}
-use Rattle.records.proofs.Layouts.{header-prefix}
 use borrow.Author.Needs.{needs}
 use Rattle.records.proofs.header_bytes.Statement.{statement}
 use Rattle.records.proofs.header_bytes.Tie as tie
@@ -34,10 +31,7 @@ two-bytes-requires-4 c κs = search needs
 returns : tie.Need-returns
 returns c =
     let named = c .before .before .before .before .before .before in
-    let args = named .before .args in
-    ap (take (headerSize (args .layout)))
-    (joined (c .before .before .before .before .before .two-bytes .ensures ∙ ap (lowBytes 2) (named .first-number .ensures)) (joined (c .before .before .before .before .two-bytes2 .ensures) (joined (c .before .before .before .four-bytes .ensures) (joined (c .before .before .four-bytes2 .ensures) (joined (c .before .two-bytes3 .ensures) (joined (c .two-bytes4 .ensures) refl))))))
-    ∙ header-prefix (args .layout) (args .header)
+    joined (c .before .before .before .before .before .two-bytes .ensures ∙ ap (lowBytes 2) (named .first-number .ensures)) (joined (c .before .before .before .before .two-bytes2 .ensures) (joined (c .before .before .before .four-bytes .ensures) (joined (c .before .before .four-bytes2 .ensures) (joined (c .before .two-bytes3 .ensures) (joined (c .two-bytes4 .ensures) refl)))))
 
 pub header-bytes-spec : {M : Type 1} → statement M
 header-bytes-spec =

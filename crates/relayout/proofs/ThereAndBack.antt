@@ -11,7 +11,7 @@ use lib.ListN.{length, getD, take, drop, length-append}
 use lib.Seq.{take-at, drop-at, drop-append-add, ext-getD}
 use borrow.Author.Tests.{lt-ltb, le-ltb, eq-eqb}
 use Rattle.numbers.specs.Bytes.{AllBytes}
-use Rattle.refusal.specs.Answers.{Verdict, sound, faulty, Said, accepted, refused, refusedAt, refusesOr}
+use Rattle.refusal.specs.Answers.{Verdict, sound, faulty, Said, accepted, refused, refusedAt, refusesOr, leaves}
 use Rattle.records.specs.declared.FrameRecord.{FrameRecord}
 use Rattle.records.specs.declared.StridedRecord.{StridedRecord}
 use Rattle.records.specs.declared.Header.{Header}
@@ -32,7 +32,7 @@ use Rattle.layout.specs.LayOut.{lengthLimit, pixelsFrom as placeFrom, allPixels
 use Rattle.layout.specs.RoundTrip.{OfWidths, AllOfWidths, pixelPlace, placedRecord, HoldsRecords}
 use Rattle.layout.proofs.RoundTrip.{Fits, room-accepted, front-length, holds, long, placed-length, placed-at, placed-fits}
 use Rattle.relayout.specs.Relayout.{target, recordsFrom, recordsOf, framesSay, relayoutSays, pixelsOf, relaid}
-use Rattle.relayout.specs.Carried.{Carries, There, Returns, ThereAndBack}
+use Rattle.relayout.specs.Carried.{Carries, There, Returns, ThereAndBack, Carried}
 use Rattle.relayout.proofs.Frames.{records-length, AllSound, Checked, atFault, fine, check, nothing-said, pixels-length, found-too, pixels-are}
 use Rattle.relayout.proofs.Carrying.{few, records-fine}
 use Rattle.relayout.proofs.Parts.{records-at, pixels-at, row-is}
@@ -319,3 +319,11 @@ there-and-back file room m bytes e home =
     let c = carriable file room m bytes e in
     let n = length-is file room m bytes e in
     record { accepts = accepts-back file c (n .0) home; carries = carries-back file c (n .0) home }
+
+-- So it is with what the code says and leaves.
+pub carried : (file d : List ℕ) {says : Said} {d′ : List ℕ} → AllBytes file → says ≡ relayoutSays file (length d) → d′ ≡ leaves (relayoutSays file (length d)) (relaid file) d → Carried file says d′
+carried file d bytes answer left total accepts =
+    let e : relayoutSays file (length d) ≡ accepted total = sym answer ∙ accepts in
+    let is : _ ≡ relaid file = left ∙ ap (λ (s : Said). leaves s (relaid file) d) e in
+    let out = there file (length d) total bytes e in
+    (ap length is ∙ out .0, (subst (Carries (target file) file) (sym is) (out .1), there-and-back file (length d) total bytes e))

@@ -5,7 +5,7 @@ use mathlib.Core.Path.{_≡_}
 use mathlib.Core.List.{List}
 use lib.ListN.{length}
 use Rattle.numbers.specs.Bytes.{AllBytes}
-use Rattle.refusal.specs.Answers.{accepted}
+use Rattle.refusal.specs.Answers.{Said, accepted}
 use Rattle.records.specs.declared.Layout.{Layout}
 use Rattle.records.specs.Layout.{layoutOf, headerOf, headerSize, withOffset}
 use Rattle.records.specs.Pixels.{packed}
@@ -39,3 +39,9 @@ abbrev pub ThereAndBack : Type 0
 ThereAndBack =
     (file : List ℕ) (room total : ℕ) → AllBytes file → relayoutSays file room ≡ accepted total
     → totalLength (layoutOf file) (recordsOf file) ≤ lengthLimit → Returns file
+
+-- Both, of what an operation says and leaves: the promise of the code.
+abbrev pub Carried : List ℕ → Said → List ℕ → Type 0
+Carried file says bytes =
+    (total : ℕ) → says ≡ accepted total
+    → (length bytes ≡ total) × (Carries (target file) file bytes × (totalLength (layoutOf file) (recordsOf file) ≤ lengthLimit → Returns file))

@@ -27,6 +27,7 @@ ghost use Rattle.layout.specs.LayOut.{allPixels};
 ghost use Rattle.layout.specs.HowLaidOut.{stateOf, walked};
 ghost use Rattle.relayout.specs.Relayout.{recordsOf, framesSay, relayoutSays, pixelsOf, relaid};
 ghost use Rattle.relayout.specs.HowCarried.{over, Written};
+ghost use Rattle.relayout.specs.Carried.{Carried};
 
 // The frames of an open spool: the first one at fault, or the bytes of all their pixels.
 fn check_frames(file: &[u8], count: usize) -> Answer
@@ -125,6 +126,7 @@ fn carry(file: &[u8], count: usize, shop: u16, dst: &mut [u8]) -> Answer
 pub fn relayout(file: &[u8], dst: &mut [u8]) -> Answer
     ensures answer { λ r. ⌜ said r ≡ relayoutSays (now (file .entry)) (length (now (dst .entry))) ⌝ }
     ensures bytes { λ _. ⌜ now (dst .exit) ≡ leaves (relayoutSays (now (file .entry)) (length (now (dst .entry)))) (relaid (now (file .entry))) (now (dst .entry)) ⌝ }
+    ensures carried { λ r. ⌜ Carried (now (file .entry)) (said r) (now (dst .exit)) ⌝ }
 {
     match open(file) {
         Opened::Refused(refusal) => Answer::Refused(refusal),

@@ -27,7 +27,7 @@ returns : tie.Need-returns
 returns c =
     let start = c .before .before .before .before .before .before .before .before .args in
     let done = c .before .before .before .before .relayout .ensures in
-    gives (relaid (now (start .file))) (now (start .dst)) (now (start .place)) (done .0) (done .1)
+    gives (relaid (now (start .file))) (now (start .dst)) (now (start .place)) (done .0) (done .1 .0)
     (toZ-ofZ _ _ (record { sfits = c .answered .ok }) ∙ c .answered .ensures .0) (c .answered .ensures .1)
 
 pub kiosk-relayout-spec : {M : Type 1} → statement M

@@ -8,6 +8,7 @@ use lib.ListN.{length}
 use Rattle.records.specs.declared.Layout.the-variants.{Strided}
 use Rattle.records.specs.Layout.{recordSize, headerSize, recordBytes, withOffset}
 use Rattle.records.specs.Pixels.{packed}
+use Rattle.records.specs.Faults.{frameLimit}
 use Rattle.records.proofs.Sizes.{header-sizes, record-sizes}
 use Rattle.layout.specs.LayOut.{recordPlace}
 use Rattle.layout.proofs.Places.{place-small, place-is}
@@ -34,8 +35,8 @@ header-size-requires : tie.Need-header-size-requires
 header-size-requires c κs = search needs
 
 -- The sizes, and how far the records before this one go.
-sizes : (c : tie.After-header-size) → (c .header-size .result ≤ headerSize Strided) × (c .before .record-size .result * c .before .before .before .before .before .before .args .place ≤ recordSize Strided * 255)
-sizes c = place-small (c .before .before .before .before .before .before .args .layout) {count = c .before .before .before .before .before .before .args .place} {most = 255} (c .header-size .ensures) (c .before .record-size .ensures) (omega (arith, c .before .before .before .if2 .left))
+sizes : (c : tie.After-header-size) → (c .header-size .result ≤ headerSize Strided) × (c .before .record-size .result * c .before .before .before .before .before .before .args .place ≤ recordSize Strided * frameLimit)
+sizes c = place-small (c .before .before .before .before .before .before .args .layout) {count = c .before .before .before .before .before .before .args .place} {most = frameLimit} (c .header-size .ensures) (c .before .record-size .ensures) (omega (arith, c .before .before .before .if2 .left))
 
 mul-at : tie.Need-mul-at
 mul-at c = let small = sizes c in record { fits = omega (arith, small .1) }

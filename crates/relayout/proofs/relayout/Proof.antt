@@ -6,6 +6,7 @@ use Rattle.refusal.specs.Answers.{Said, leaves}
 use Rattle.spool.proofs.FindFaults.{opened}
 use Rattle.relayout.specs.Relayout.{relaid}
 use Rattle.relayout.proofs.Carrying.{shut}
+use Rattle.relayout.proofs.ThereAndBack.{carried}
 use borrow.Author.Needs.{needs}
 use Rattle.relayout.proofs.relayout.Statement.{statement}
 use Rattle.relayout.proofs.relayout.Tie as tie
@@ -29,13 +30,17 @@ returns : tie.Need-returns
 returns c =
     let at = c .before .before .before .before .before .before .args in
     let says = shut (at .file .now) (length (at .dst .now)) (c .before .refusal .given .1) (c .before .before .before .«open» .ensures) in
-    (says, ap (λ (s : Said). leaves s (relaid (at .file .now)) (at .dst .now)) says)
+    let bytes = ap (λ (s : Said). leaves s (relaid (at .file .now)) (at .dst .now)) says in
+    (says, (bytes, carried (at .file .now) (at .dst .now) (λ i. c .before .before .before .before .before .shared-slice-known .given i .fits) says bytes))
 
 same-length : tie.Need-same-length
 same-length c = search needs
 
 returns-2 : tie.Need-returns-2
-returns-2 c = search needs
+returns-2 c =
+    let at = c .before .before .before .before .before .before .before .before .before .before .before .args in
+    let done = c .before .before .carry .ensures in
+    (done .0, (done .1, carried (at .file .now) (at .dst .now) (λ i. c .before .before .before .before .before .before .before .before .before .before .shared-slice-known .given i .fits) (done .0) (done .1)))
 
 pub relayout-spec : {M : Type 1} → statement M
 relayout-spec =

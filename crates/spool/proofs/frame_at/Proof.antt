@@ -1,6 +1,6 @@
 -- `spool::frame_at` meets its contract.
 -- Assumes nothing.
-use Prim.Native.Nat.{_+_, _*_, _≤_, _<_}
+use Prim.Native.Nat.{_+_, _*_, _^_, _≤_, _<_}
 use native.Mathlib.Omega.{arith}
 use mathlib.Core.Path.{_≡_, sym, ap, subst, _∙_}
 use lib.ListN.{length}
@@ -40,12 +40,12 @@ record-size-requires c κs = search needs
 
 mul-at : tie.Need-mul-at
 mul-at c =
-    let small = table-small (c .before .before .layout-of .result) {count = c .before .before .before .before .before .before .before .before .before .before .args .number} {most = 65535} (c .record-size .ensures) (omega (arith, c .before .before .before .if1 .left)) in
+    let small = table-small (c .before .before .layout-of .result) {count = c .before .before .before .before .before .before .before .before .before .before .args .number} {most = 2 ^ 16} (c .record-size .ensures) (omega (arith, c .before .before .before .if1 .left)) in
     record { fits = omega (arith, small) }
 
 add-at : tie.Need-add-at
 add-at c =
-    let small = table-small (c .before .before .layout-of .result) {count = c .before .before .before .before .before .before .before .before .before .before .args .number} {most = 65535} (c .record-size .ensures) (omega (arith, c .before .before .before .if1 .left)) in
+    let small = table-small (c .before .before .layout-of .result) {count = c .before .before .before .before .before .before .before .before .before .before .args .number} {most = 2 ^ 16} (c .record-size .ensures) (omega (arith, c .before .before .before .if1 .left)) in
     omega (arith, small)
 
 read-record-requires : tie.Need-read-record-requires

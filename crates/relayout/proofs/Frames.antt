@@ -105,15 +105,15 @@ module _ (file : List ℕ) (k : ℕ) (opens : openFault file ≡ sound) (below :
 
   pub found-too : findSays file k ≡ finds s
   found-too =
-      sym (found true file s (sym (is .fine)) (gaps-taken s (sound-stride false s (is .steps)) refl) within ∙ by-record true file k opens below refl)
+      sym (found true file s (sym (is .fine)) (gaps-taken s (sound-stride false s (is .strides)) refl) within ∙ by-record true file k opens below refl)
 
   pub pixels-are : framePixels file k ≡ take (pixelBytes (s .frame)) (drop (s .frame .offset) file)
   pixels-are =
       ap (λ (f : FindSaid). take (pixelsLength f) (drop (pixelsStart f) file)) found-too
-      ∙ ap (λ (n : ℕ). take n (drop (s .frame .offset) file)) (free-span s (is .fine) (is .steps))
+      ∙ ap (λ (n : ℕ). take n (drop (s .frame .offset) file)) (free-span s (is .fine) (is .strides))
 
   pub pixels-inside : s .frame .offset + pixelBytes (s .frame) ≤ length file
-  pixels-inside = let span = free-span s (is .fine) (is .steps) in let end = is .inside in rw (sym span) end
+  pixels-inside = let span = free-span s (is .fine) (is .strides) in let end = is .inside in rw (sym span) end
 
   pub frame-length : length (framePixels file k) ≡ pixelBytes (s .frame)
   frame-length = let end = pixels-inside in ap length pixels-are ∙ simp (length-take, length-drop) (omega (arith, end))

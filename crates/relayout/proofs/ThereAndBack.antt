@@ -133,7 +133,7 @@ module _ (l : Layout) (file : List ℕ) (c : Carriable file) (small : totalLengt
         let test = ltb j (s .frame .height) in
         row-is result k (packed moved) j frame-is (λ i under. refl) test refl
         ∙ ap (λ (x : List ℕ). cond test (take (rowBytes (s .frame)) (drop (j * rowBytes (s .frame)) x)) []) pixels-same
-        ∙ sym (row-is file k s j (found-too file k (c .opened) below good) (free-row s (sound-record false file s good .steps)) test refl)
+        ∙ sym (row-is file k s j (found-too file k (c .opened) below good) (free-row s (sound-record false file s good .strides)) test refl)
 
   carries : Carries l file result
   carries = record {
@@ -236,8 +236,8 @@ module _ (file : List ℕ) (c : Carriable file) (out : totalLength (target file)
     unfolding frameFault pixelsOutside
     still-sound =
         let is = is-whole .is-sound in
-        let steps : strideFault false (packed new) ≡ sound = sym (no-gaps (packed new) (omega arith) refl (none new)) in
-        rw (new-record, is .fine, steps, le-ltb _ _ (is .behind), le-ltb _ _ (is .inside))
+        let strides : strideFault false (packed new) ≡ sound = sym (no-gaps (packed new) (omega arith) refl (none new)) in
+        rw (new-record, is .fine, strides, le-ltb _ _ (is .behind), le-ltb _ _ (is .inside))
       where
         none : (r : FrameRecord) → hasGaps (packed r) ≡ false
         none r = by-height (ltb 1 (r .height)) refl where

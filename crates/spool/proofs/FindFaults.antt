@@ -73,14 +73,14 @@ module _ (gapsTaken : Bool) (file : List ℕ) (s : StridedRecord) where
     unfolding frameFault
     bad-stride e = rw (sym fine, sym e)
 
-    module _ (steps : sound ≡ strideFault gapsTaken s) where
+    module _ (strides : sound ≡ strideFault gapsTaken s) where
       pub outside : pixelsOutside file s ≡ true → refusesFrame 8 noRecord ≡ frameSays gapsTaken file s
       unfolding frameFault
-      outside bad = rw (sym fine, sym steps, bad)
+      outside bad = rw (sym fine, sym strides, bad)
 
       pub found : pixelsOutside file s ≡ false → finds s ≡ frameSays gapsTaken file s
       unfolding frameFault
-      found good = rw (sym fine, sym steps, good)
+      found good = rw (sym fine, sym strides, good)
 
 -- Pixels that start inside the header, and others.
 module _ (file : List ℕ) (s : StridedRecord) {l : Layout} {size : ℕ} (told : l ≡ layoutOf file) (e : size ≡ headerSize l) where
@@ -95,7 +95,7 @@ module _ (file : List ℕ) (s : StridedRecord) {l : Layout} {size : ℕ} (told :
 -- What holds of a record that is sound in its file.
 pub record Sound (gapsTaken : Bool) (file : List ℕ) (s : StridedRecord) : Type 0 where
   pub fine : recordFault (s .frame) ≡ sound
-  pub steps : strideFault gapsTaken s ≡ sound
+  pub strides : strideFault gapsTaken s ≡ sound
   pub behind : headerSize (layoutOf file) ≤ s .frame .offset
   pub inside : pixelEnd s ≤ length file
 
@@ -106,7 +106,7 @@ sound-record gapsTaken file s e =
     let second = both-sound (strideFault gapsTaken s) _ (first .1) in
     let third = passed (pixelsOutside file s) 8 sound (second .1) in
     let both = or-false (ltb (s .frame .offset) (headerSize (layoutOf file))) (ltb (length file) (pixelEnd s)) (third .0) in
-    record { fine = first .0; steps = second .0; behind = ltb-false _ _ (both .0); inside = ltb-false _ _ (both .1) }
+    record { fine = first .0; strides = second .0; behind = ltb-false _ _ (both .0); inside = ltb-false _ _ (both .1) }
 
 -- What holds of a frame that is found.
 pub record Whole (gapsTaken : Bool) (file : List ℕ) (k : ℕ) (s : StridedRecord) : Type 0 where

@@ -1,7 +1,7 @@
 -- Laying out and then finding gives each record back, with its pixels where they were placed.
 -- Assumes nothing.
 use Prim.Native.Nat.{ℕ, zero, suc, _+_, _*_, _^_, _≤_, _<_}
-use native.Mathlib.Nat.{add-zero, zero-add, add-assoc, add-comm, mul-zero, mul-suc}
+use native.Mathlib.Nat.{add-zero, zero-add, add-assoc, mul-zero, mul-suc}
 use native.Mathlib.Omega.{arith}
 use mathlib.Core.Path.{_≡_, refl, sym, ap, _∙_}
 use mathlib.Core.Bool.{Bool, true, false, cond}
@@ -18,7 +18,7 @@ use Rattle.records.specs.declared.Layout.{Layout}
 use Rattle.records.specs.declared.Layout.the-variants.{Plain}
 use Rattle.records.specs.Layout.{layoutOf, headerOf, headerIn, recordIn, headerBytes, recordBytes, headerSize, recordSize, noFrame, withOffset}
 use Rattle.records.specs.Pixels.{pixelBytes, spanBytes, packed}
-use Rattle.records.specs.Faults.{recordFault, strideFault, frameLimit}
+use Rattle.records.specs.Faults.{recordFault, frameLimit}
 use Rattle.records.proofs.Strides.{gaps-taken, packed-span, sound-height}
 use Rattle.spool.specs.Open.{openFault}
 use Rattle.spool.specs.Find.{finds, recordAt, pixelsOutside, findSays, framePixels, pixelsStart, pixelsLength, FindSaid}

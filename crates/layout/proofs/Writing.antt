@@ -12,7 +12,7 @@ use borrow.Author.Tests.{le-ltb}
 use Rattle.refusal.specs.Answers.{sound, accepted}
 use Rattle.records.specs.declared.FrameRecord.{FrameRecord}
 use Rattle.records.specs.declared.Layout.{Layout}
-use Rattle.records.specs.Layout.{recordBytes, recordSize, withOffset}
+use Rattle.records.specs.Layout.{recordBytes, withOffset}
 use Rattle.records.specs.Pixels.{pixelBytes, packed}
 use Rattle.records.specs.Faults.{recordFault, frameLimit}
 use Rattle.layout.specs.LayOut.{allPixels, placed, tableBytes, lengthLimit, recordPlace}

@@ -4,20 +4,20 @@ use Prim.Native.Nat.{ℕ, zero, suc, _+_, _-_, _≤_, _<_}
 use native.Mathlib.Omega.{arith}
 use native.Mathlib.Nat.{zero-add, le-of-eq}
 use mathlib.Core.Path.{_≡_, refl, sym, ap, ap₂, _∙_, subst}
-use mathlib.Core.Bool.{Bool, true, false, cond}
-use mathlib.Core.List.{List, [], _++_, append-assoc, append-nil}
+use mathlib.Core.Bool.{Bool, true, false}
+use mathlib.Core.List.{List, _++_, append-assoc, append-nil}
 use lib.Dec.{eqb, ltb}
-use lib.ListN.{length, take, drop, length-append, length-drop, drop-of-length-le}
+use lib.ListN.{length, drop, length-append, length-drop, drop-of-length-le}
 use lib.Seq.{take-at}
 use borrow.Author.Tests.{le-ltb, ltb-false, eqb-true}
 use Rattle.refusal.specs.declared.Refusal.{Refusal}
-use Rattle.refusal.specs.Answers.{Verdict, sound, faulty, Said, accepted, refused, refusedAt, leaves}
+use Rattle.refusal.specs.Answers.{sound, Said, accepted, refused, refusedAt, leaves}
 use Rattle.refusal.specs.Refusals.{numberOf}
 use Rattle.records.specs.declared.FrameRecord.{FrameRecord}
 use Rattle.records.specs.declared.Header.{Header}
 use Rattle.records.specs.declared.Layout.{Layout}
-use Rattle.records.specs.Layout.{layoutOf, headerOf, headerSize, headerBytes}
-use Rattle.records.specs.Faults.{frameLimit, recordFault}
+use Rattle.records.specs.Layout.{headerOf, headerSize, headerBytes}
+use Rattle.records.specs.Faults.{frameLimit}
 use Rattle.spool.specs.declared.Opened.{Opened}
 use Rattle.spool.specs.declared.Opened.the-variants as opened
 use Rattle.spool.specs.Open.{openFault, openSaid, openSays}
@@ -25,7 +25,7 @@ use Rattle.spool.specs.Find.{recordAt, frameFault}
 use Rattle.spool.proofs.OpenFaults.{open-file, refused-fault}
 use Rattle.spool.proofs.FindFaults.{sound-record}
 use Rattle.layout.specs.LayOut.{lengthLimit, pixelsFrom as placeFrom, allPixels, totalLength, roomSays, placed, tableBytes, headerFor, spoolBytes}
-use Rattle.layout.specs.HowLaidOut.{State, walked, stopped, readied}
+use Rattle.layout.specs.HowLaidOut.{State, walked, readied}
 use Rattle.layout.proofs.Checking.{Fine, none, one}
 use Rattle.layout.proofs.Laid.{written-out}
 use Rattle.layout.proofs.RoundTrip.{front-length}

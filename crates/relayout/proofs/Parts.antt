@@ -2,12 +2,12 @@
 -- Assumes nothing.
 use Prim.Native.Nat.{ℕ, zero, suc, _+_, _-_, _*_, _≤_, _<_}
 use native.Mathlib.Omega.{arith}
-use native.Mathlib.Nat.{zero-add, add-zero, add-assoc, mul-le-mul-right, add-mul, one-mul}
-use mathlib.Core.Path.{_≡_, refl, sym, ap, ap₂, _∙_}
+use native.Mathlib.Nat.{add-zero, mul-le-mul-right, add-mul, one-mul}
+use mathlib.Core.Path.{_≡_, refl, sym, ap, _∙_}
 use mathlib.Core.Bool.{Bool, true, false, cond}
 use mathlib.Core.List.{List, [], _∷_, _++_}
 use lib.Dec.{ltb}
-use lib.ListN.{length, getD, take, drop}
+use lib.ListN.{getD, take, drop}
 use lib.Seq.{take-take, take-at, drop-drop, drop-append-add}
 use borrow.Author.Tests.{ltb-true}
 use Rattle.refusal.specs.Answers.{sound}
@@ -15,11 +15,9 @@ use Rattle.records.specs.declared.FrameRecord.{FrameRecord}
 use Rattle.records.specs.declared.StridedRecord.{StridedRecord}
 use Rattle.records.specs.Layout.{headerOf, noFrame}
 use Rattle.records.specs.Pixels.{rowBytes, pixelBytes}
-use Rattle.records.proofs.Strides.{free-row}
 use Rattle.spool.specs.Open.{openFault}
-use Rattle.spool.specs.Find.{FindSaid, finds, recordAt, frameFault, findSays, framePixels}
-use Rattle.spool.specs.Rows.{rowExtent, rowOfSaid, extentOf, frameRow}
-use Rattle.spool.proofs.FindFaults.{sound-record}
+use Rattle.spool.specs.Find.{FindSaid, finds, recordAt, findSays, framePixels}
+use Rattle.spool.specs.Rows.{rowOfSaid, extentOf, frameRow}
 use Rattle.layout.specs.LayOut.{allPixels}
 use Rattle.relayout.specs.Relayout.{recordsFrom, pixelsFrom}
 use Rattle.relayout.proofs.Frames.{AllSound, now-sound, later-sound, frame-length}

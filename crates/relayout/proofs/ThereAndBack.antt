@@ -2,14 +2,14 @@
 -- Assumes nothing.
 use Prim.Native.Nat.{ℕ, zero, suc, _+_, _-_, _*_, _^_, _≤_, _<_}
 use native.Mathlib.Omega.{arith}
-use native.Mathlib.Nat.{zero-add, add-zero, le-of-eq}
+use native.Mathlib.Nat.{zero-add, le-of-eq}
 use mathlib.Core.Path.{_≡_, refl, sym, ap, ap₂, subst, _∙_}
 use mathlib.Core.Bool.{Bool, true, false, cond}
 use mathlib.Core.List.{List, [], _∷_, _++_, append-assoc}
-use lib.Dec.{eqb, ltb}
+use lib.Dec.{ltb}
 use lib.ListN.{length, getD, take, drop, length-append}
-use lib.Seq.{take-at, drop-at, drop-append-add, ext-getD}
-use borrow.Author.Tests.{lt-ltb, le-ltb, eq-eqb}
+use lib.Seq.{drop-at, drop-append-add, ext-getD}
+use borrow.Author.Tests.{le-ltb, eq-eqb}
 use Rattle.numbers.specs.Bytes.{AllBytes}
 use Rattle.refusal.specs.Answers.{Verdict, sound, faulty, Said, accepted, refused, refusedAt, refusesOr, leaves}
 use Rattle.records.specs.declared.FrameRecord.{FrameRecord}
@@ -17,22 +17,22 @@ use Rattle.records.specs.declared.StridedRecord.{StridedRecord}
 use Rattle.records.specs.declared.Header.{Header}
 use Rattle.records.specs.declared.Layout.{Layout}
 use Rattle.records.specs.declared.Layout.the-variants.{Plain, Strided}
-use Rattle.records.specs.Layout.{layoutOf, otherLayout, headerOf, headerSize, headerBytes, noFrame, withOffset, frameWidths, frameNumbers}
+use Rattle.records.specs.Layout.{layoutOf, otherLayout, headerOf, headerSize, headerBytes, noFrame, withOffset}
 use Rattle.records.specs.Pixels.{rowBytes, pixelBytes, hasGaps, packed}
-use Rattle.records.specs.Faults.{frameLimit, recordFault, strideFault}
+use Rattle.records.specs.Faults.{strideFault}
 use Rattle.records.proofs.Small.{header-small}
 use Rattle.records.proofs.Strides.{free-row, no-gaps}
-use Rattle.spool.specs.Open.{opens, openFault, openSays}
-use Rattle.spool.specs.Find.{FindSaid, finds, recordAt, pixelsOutside, frameFault, findSays, framePixels}
+use Rattle.spool.specs.Open.{opens, openFault}
+use Rattle.spool.specs.Find.{finds, recordAt, pixelsOutside, frameFault, findSays, framePixels}
 use Rattle.spool.specs.Rows.{frameRow}
 use Rattle.spool.proofs.OpenFaults.{opens-sound}
 use Rattle.spool.proofs.FindFaults.{whole, Whole, sound-record}
 use Rattle.spool.proofs.Small.{record-at-small}
 use Rattle.layout.specs.LayOut.{lengthLimit, pixelsFrom as placeFrom, allPixels, totalLength, roomSays, placed, tableBytes, headerFor, spoolBytes}
-use Rattle.layout.specs.RoundTrip.{OfWidths, AllOfWidths, pixelPlace, placedRecord, HoldsRecords}
+use Rattle.layout.specs.RoundTrip.{AllOfWidths, pixelPlace, HoldsRecords}
 use Rattle.layout.proofs.RoundTrip.{Fits, room-accepted, front-length, holds, long, placed-length, placed-at, placed-fits}
 use Rattle.relayout.specs.Relayout.{target, recordsFrom, recordsOf, framesSay, relayoutSays, pixelsOf, relaid}
-use Rattle.relayout.specs.Carried.{Carries, There, Returns, ThereAndBack, Carried}
+use Rattle.relayout.specs.Carried.{Carries, There, ThereAndBack, Carried}
 use Rattle.relayout.proofs.Frames.{records-length, AllSound, Checked, atFault, fine, check, nothing-said, pixels-length, found-too, pixels-are}
 use Rattle.relayout.proofs.Carrying.{few, records-fine}
 use Rattle.relayout.proofs.Parts.{records-at, pixels-at, row-is}

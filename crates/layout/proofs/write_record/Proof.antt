@@ -9,7 +9,7 @@ use Rattle.records.specs.declared.Layout.the-variants.{Strided}
 use Rattle.records.specs.Layout.{recordSize, headerSize, recordBytes, withOffset}
 use Rattle.records.specs.Pixels.{packed}
 use Rattle.records.specs.Faults.{frameLimit}
-use Rattle.records.proofs.Sizes.{header-sizes, record-sizes}
+use Rattle.records.proofs.Sizes.{record-sizes}
 use Rattle.layout.specs.LayOut.{recordPlace}
 use Rattle.layout.proofs.Places.{place-small, place-is}
 use Rattle.layout.proofs.Written.{prefix-length, prefix-fits, record-there, record-copied, not-writing, past-limit, past-length, no-room, put-record}

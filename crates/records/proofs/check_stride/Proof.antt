@@ -1,9 +1,6 @@
 -- `records::check_stride` meets its contract.
 -- Assumes nothing.
-use native.Mathlib.Omega.{arith}
 use mathlib.Core.Path.{sym, _∙_}
-use Prim.Native.Nat.{_<_, _≤_}
-use Rattle.records.specs.Pixels.{rowBytes}
 use Rattle.records.proofs.Strides.{below-row, gaps-taken, gaps-not-taken, no-gaps}
 use borrow.Author.Needs.{needs}
 use Rattle.records.proofs.check_stride.Statement.{statement}

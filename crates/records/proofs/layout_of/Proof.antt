@@ -1,6 +1,5 @@
 -- `records::layout_of` meets its contract.
 -- Assumes nothing.
-use Prim.Native.Nat.{_≤_}
 use native.Mathlib.Omega.{arith}
 use mathlib.Core.Path.{sym, _∙_}
 use Rattle.records.proofs.Layouts.{too-short, marked, unmarked}

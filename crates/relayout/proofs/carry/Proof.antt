@@ -1,13 +1,10 @@
 -- `relayout::carry` meets its contract.
 -- Assumes nothing.
-use Prim.Native.Nat.{_≤_, _<_}
-use mathlib.Core.Path.{_≡_, sym, ap, subst, _∙_}
-use lib.ListN.{length}
+use mathlib.Core.Path.{sym, ap, subst, _∙_}
 use Rattle.refusal.specs.declared.Answer.{Answer}
 use Rattle.refusal.specs.Answers.{said}
 use Rattle.records.specs.Layout.{otherLayout}
-use Rattle.layout.specs.HowLaidOut.{stateOf}
-use Rattle.relayout.proofs.Carrying.{Refuses, Begun, begun, refused-ends, Goes, goes, room-for, each-sound, done}
+use Rattle.relayout.proofs.Carrying.{Refuses, begun, refused-ends, goes, room-for, each-sound, done}
 use borrow.Author.Needs.{needs}
 use Rattle.relayout.proofs.carry.Statement.{statement}
 use Rattle.relayout.proofs.carry.Tie as tie

@@ -1,6 +1,6 @@
 -- `relayout::relayout` meets its contract.
 -- Assumes nothing.
-use mathlib.Core.Path.{ap, sym, _∙_}
+use mathlib.Core.Path.{ap}
 use lib.ListN.{length}
 use Rattle.refusal.specs.Answers.{Said, leaves}
 use Rattle.spool.proofs.FindFaults.{opened}

@@ -1,7 +1,6 @@
 -- `relayout::write_frames` meets its contract.
 -- Assumes nothing.
 use mathlib.Core.Path.{ap, _∙_}
-use mathlib.Core.List.{List}
 use Rattle.layout.specs.HowLaidOut.{State}
 use Rattle.relayout.specs.Relayout.{pixelsOf}
 use Rattle.relayout.specs.HowCarried.{over}

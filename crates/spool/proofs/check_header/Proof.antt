@@ -2,10 +2,8 @@
 -- Assumes nothing.
 use Prim.Native.Nat.{_+_, _*_, _≤_, _<_}
 use native.Mathlib.Omega.{arith}
-use mathlib.Core.Path.{_≡_, sym, _∙_}
-use Rattle.records.specs.declared.Layout.the-variants.{Strided}
+use mathlib.Core.Path.{sym, _∙_}
 use Rattle.records.specs.Layout.{recordSize, headerSize}
-use Rattle.records.specs.Faults.{frameLimit}
 use Rattle.spool.proofs.OpenFaults.{wrong-length, wrong-record-size, too-many, table-early, table-past, no-fault, table-small}
 use borrow.Author.Needs.{needs}
 use Rattle.spool.proofs.check_header.Statement.{statement}

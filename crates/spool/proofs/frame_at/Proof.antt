@@ -1,8 +1,8 @@
 -- `spool::frame_at` meets its contract.
 -- Assumes nothing.
-use Prim.Native.Nat.{_+_, _*_, _^_, _≤_, _<_}
+use Prim.Native.Nat.{_+_, _*_, _^_, _<_}
 use native.Mathlib.Omega.{arith}
-use mathlib.Core.Path.{_≡_, sym, ap, subst, _∙_}
+use mathlib.Core.Path.{subst, _∙_}
 use lib.ListN.{length}
 use Rattle.records.specs.Layout.{ReadsRecord, layoutOf, headerOf, recordSize}
 use Rattle.spool.proofs.OpenFaults.{table-small}

@@ -7,7 +7,7 @@ use mathlib.Core.Path.{_≡_, refl, sym, ap, _∙_}
 use mathlib.Core.Bool.{true}
 use lib.ListN.{length}
 use Rattle.spool.specs.Find.{findSaid}
-use Rattle.spool.specs.Rows.{rowExtent, rowPlace, rowOfSaid}
+use Rattle.spool.specs.Rows.{rowPlace}
 use Rattle.spool.proofs.FindFaults.{found-whole}
 use Rattle.spool.proofs.Rows.{row-inside, row-there}
 use borrow.Author.Needs.{needs}

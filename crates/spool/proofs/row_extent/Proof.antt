@@ -1,6 +1,5 @@
 -- `spool::row_extent` meets its contract.
 -- Assumes nothing.
-use Prim.Native.Nat.{_*_, _≤_, _<_, _^_}
 use native.Mathlib.Omega.{arith}
 use Rattle.records.proofs.Sizes.{rows-small}
 use Rattle.spool.proofs.Rows.{no-row, one-row}

@@ -10,7 +10,8 @@ use Rattle.refusal.specs.declared.Answer.{Answer}
 use Rattle.refusal.specs.declared.Answer.the-variants.{Done}
 use Rattle.refusal.specs.Answers.{Said, accepted, refused, said}
 use Rattle.records.specs.declared.Layout.{Layout}
-use Rattle.records.specs.Layout.{headerBytes, longHeader, headerSize, recordSize}
+use Rattle.records.specs.Layout.{headerBytes, headerSize, recordSize}
+use Rattle.records.specs.HowStored.{longHeader}
 use Rattle.records.specs.Faults.{frameLimit}
 use Rattle.layout.specs.declared.Progress.{Progress}
 use Rattle.layout.specs.LayOut.{pixelsFrom, headerFor, lengthLimit}
@@ -18,6 +19,7 @@ use Rattle.layout.specs.HowLaidOut.{stateOf, stopped, begun, readied}
 use Rattle.records.specs.declared.Header.{Header}
 use Rattle.records.proofs.Sizes.{header-sizes}
 use Rattle.records.proofs.Layouts.{header-prefix}
+use Rattle.layout.proofs.Places.{place-is}
 use Rattle.layout.proofs.Written.{copied}
 use Rattle.layout.proofs.Read.{header-length}
 
@@ -52,16 +54,13 @@ header-copied l count shop pixels d full {least} e f is copy =
 
 -- `begin`, by the sizes that it works out.
 module _ (l : Layout) (count shop pixels : ℕ) (d : List ℕ) {least size : ℕ} (e : least ≡ headerSize l) (f : size ≡ recordSize l) where
-  pub first-is : least + size * count ≡ pixelsFrom l count
-  first-is = rw (e, f)
-
   pub begins : (full : List ℕ) {d′ : List ℕ} → least + size * count + pixels ≤ lengthLimit → length d ≡ least + size * count + pixels
       → full ≡ longHeader l (record { count = count; shop = shop; table = least; length = least + size * count + pixels; size = size })
       → d′ ≡ take (length (take least full)) (take least full) ++ drop (length (take least full)) d
       → stateOf (record { writing = true; answer = Done (least + size * count); layout = l }) d′ ≡ begun l count shop (accepted pixels) d
   begins full small room is copy =
-      let total : least + size * count + pixels ≡ pixelsFrom l count + pixels = rw first-is in
-      begin-writes l count shop pixels d (rw total at small) (room ∙ total) first-is (header-copied l count shop pixels d full e f is copy)
+      let total : least + size * count + pixels ≡ pixelsFrom l count + pixels = rw (place-is l e f count) in
+      begin-writes l count shop pixels d (rw total at small) (room ∙ total) (place-is l e f count) (header-copied l count shop pixels d full e f is copy)
 
 module _ (count shop : ℕ) (d : List ℕ) (p : Progress) where
   pub ready-too-many : frameLimit < count → stopped (p .layout) (refused 3) d ≡ readied count shop (stateOf p d)

@@ -2,12 +2,11 @@
 -- Assumes nothing.
 use Prim.Native.Nat.{ℕ, _+_, _*_, _≤_}
 use native.Mathlib.Omega.{arith}
-use native.Mathlib.Nat.{mul-le-mul}
 use mathlib.Core.Path.{_≡_}
 use Rattle.records.specs.declared.Layout.{Layout}
 use Rattle.records.specs.declared.Layout.the-variants.{Plain, Strided}
 use Rattle.records.specs.Layout.{headerSize, recordSize}
-use Rattle.records.proofs.Sizes.{header-sizes, record-sizes}
+use Rattle.records.proofs.Sizes.{header-sizes, table-small}
 use Rattle.layout.specs.LayOut.{recordPlace}
 
 pub next-place : (l : Layout) (i : ℕ) → recordPlace l i + recordSize l ≡ recordPlace l (i + 1)
@@ -26,7 +25,7 @@ first-place Strided i = omega arith
 -- How far records go, by how many they are.
 pub place-small : (l : Layout) {least size count most : ℕ} → least ≡ headerSize l → size ≡ recordSize l → count ≤ most
     → (least ≤ headerSize Strided) × (size * count ≤ recordSize Strided * most)
-place-small l e f few = rw (e, f) (header-sizes l .1, mul-le-mul (record-sizes l .1) few)
+place-small l e f few = (rw e (header-sizes l .1), table-small l f few)
 
 pub place-is : (l : Layout) {least size : ℕ} → least ≡ headerSize l → size ≡ recordSize l → (place : ℕ) → least + size * place ≡ recordPlace l place
 place-is l e f place = rw (e, f)

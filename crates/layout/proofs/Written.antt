@@ -53,8 +53,9 @@ prefix-length xs h = simp length-take (omega arith)
 pub prefix-short : (xs : List ℕ) (n room : ℕ) → n ≤ room → length (take n xs) ≤ room
 prefix-short xs n room h = simp length-take (omega arith)
 
-pub prefix-fits : (xs d : List ℕ) (at n : ℕ) → at + n ≤ length d → length (take n xs) ≤ length (take (length d - at) (drop at d))
-prefix-fits xs d at n h = simp (length-take, length-drop) (omega arith)
+-- There is room for as many bytes as stand behind a place.
+pub room-behind : (d : List ℕ) (at n : ℕ) → at + n ≤ length d → n ≤ length (take (length d - at) (drop at d))
+room-behind d at n h = simp (length-take, length-drop) (omega arith)
 
 -- The record's bytes that stand at the start of the strided ones.
 module _ (l : Layout) (s : StridedRecord) {size : ℕ} {full : List ℕ} (e : size ≡ recordSize l) (is : full ≡ recordBytes Strided s) where

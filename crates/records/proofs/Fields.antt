@@ -12,7 +12,8 @@ use Rattle.numbers.specs.Bytes.{littleEndian, lowBytes}
 use Rattle.records.specs.declared.FrameRecord.{FrameRecord}
 use Rattle.records.specs.declared.Layout.{Layout}
 use Rattle.records.specs.declared.Layout.the-variants.{Plain, Strided}
-use Rattle.records.specs.Layout.{recordSize, frameFrom, headerIn, frameIn, strideIn, recordIn}
+use Rattle.records.specs.Layout.{recordSize, frameFrom, headerIn, recordIn}
+use Rattle.records.specs.HowStored.{frameIn, strideIn}
 
 -- The k elements from place i on, one by one.
 abbrev pub spelled : ℕ → ℕ → List ℕ → List ℕ

@@ -14,7 +14,8 @@ use Rattle.records.specs.declared.Layout.{Layout}
 use Rattle.records.specs.declared.Layout.the-variants.{Plain, Strided}
 use Rattle.records.specs.Pixels.{packed}
 use Rattle.records.proofs.Fields.{spelled}
-use Rattle.records.specs.Layout.{layoutOf, stridedMark, headerSize, recordSize, headerBytes, longHeader, recordBytes}
+use Rattle.records.specs.Layout.{layoutOf, stridedMark, headerSize, recordSize, headerBytes, recordBytes}
+use Rattle.records.specs.HowStored.{longHeader}
 
 module _ (file : List ℕ) where
   pub too-short : length file < 2 → Plain ≡ layoutOf file

@@ -66,6 +66,10 @@ pub record-sizes : (l : Layout) → (recordSize Plain ≤ recordSize l) × (reco
 record-sizes Plain = (omega arith, omega arith)
 record-sizes Strided = (omega arith, omega arith)
 
+-- The bytes of so many records.
+pub table-small : (l : Layout) {size count most : ℕ} → size ≡ recordSize l → count ≤ most → size * count ≤ recordSize Strided * most
+table-small l e few = rw e (mul-le-mul (record-sizes l .1) few)
+
 -- What the plain header holds, a header of either layout has room for.
 pub header-holds : (l : Layout) {need size room : ℕ} → need ≤ headerSize Plain → size ≡ headerSize l → size ≤ room → need ≤ room
 header-holds l {size = size} fits e h = le-trans (le-trans fits (header-sizes l .0)) (rw e at h)

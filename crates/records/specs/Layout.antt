@@ -72,10 +72,6 @@ recordNumbers s = frameNumbers (s .frame) ++ (s .stride ∷ [])
 abbrev pub headerBytes : Layout → Header → List ℕ
 headerBytes l h = fieldBytes (headerWidths l) (headerNumbers l h)
 
--- A header's bytes and, where it is plain, those of the numbers that it does not say.
-abbrev pub longHeader : Layout → Header → List ℕ
-longHeader l h = fieldBytes (headerWidths Strided) (headerNumbers l h)
-
 abbrev pub recordBytes : Layout → StridedRecord → List ℕ
 recordBytes l s = fieldBytes (recordWidths l) (recordNumbers s)
 
@@ -111,13 +107,6 @@ headerOf file = headerIn (layoutOf file) file
 
 unfoldable pub recordIn : Layout → List ℕ → StridedRecord
 recordIn l bytes = recordFrom (numbersIn (recordWidths l) bytes)
-
--- The two parts of a record: the numbers that both layouts have, and the stride of a frame.
-unfoldable pub frameIn : List ℕ → FrameRecord
-frameIn bytes = frameFrom (numbersIn frameWidths bytes)
-
-abbrev pub strideIn : Layout → List ℕ → FrameRecord → ℕ
-strideIn l bytes r = getD (numbersIn (recordWidths l) bytes) 7 (rowBytes r)
 
 -- What reading a header gives, and reading a record at a place: nothing if some of its bytes are missing.
 abbrev pub ReadsHeader : Layout → List ℕ → HeaderRead → Type 0

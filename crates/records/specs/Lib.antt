@@ -1,4 +1,5 @@
 pub mod Fields
 pub mod Pixels
 pub mod Layout
+pub mod HowStored
 pub mod Faults

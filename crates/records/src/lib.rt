@@ -16,7 +16,8 @@ ghost use Rattle.esrgb.specs.Depths.{offered};
 ghost use Rattle.numbers.specs.Bytes.{littleEndian};
 ghost use Rattle.refusal.specs.Answers.{verdict};
 ghost use Rattle.records.specs.declared.Layout.the-variants.{Plain, Strided};
-ghost use Rattle.records.specs.Layout.{headerSize, recordSize, firstNumber, layoutOf, otherLayout, noRecord, withOffset, headerIn, frameIn, strideIn, recordIn, longHeader, recordBytes, ReadsHeader, ReadsRecord};
+ghost use Rattle.records.specs.Layout.{headerSize, recordSize, firstNumber, layoutOf, otherLayout, noRecord, withOffset, headerIn, recordIn, recordBytes, ReadsHeader, ReadsRecord};
+ghost use Rattle.records.specs.HowStored.{frameIn, strideIn, longHeader};
 ghost use Rattle.records.specs.Pixels.{rowBytes, pixelBytes, spanBytes, hasGaps, packed};
 ghost use Rattle.records.specs.Faults.{isPair, badSide, recordFault, strideFault};
 

@@ -24,7 +24,7 @@ use Rattle.spool.specs.Open.{openFault, openSaid, openSays}
 use Rattle.spool.specs.Find.{recordAt, frameFault}
 use Rattle.spool.proofs.OpenFaults.{open-file, refused-fault}
 use Rattle.spool.proofs.FindFaults.{sound-record}
-use Rattle.layout.specs.LayOut.{lengthLimit, pixelsFrom as placeFrom, allPixels, totalLength, roomSays, placed, tableBytes, headerFor, spoolBytes}
+use Rattle.layout.specs.LayOut.{lengthLimit, pixelsFrom, allPixels, totalLength, roomSays, placed, tableBytes, headerFor, spoolBytes}
 use Rattle.layout.specs.HowLaidOut.{State, walked, readied}
 use Rattle.layout.proofs.Checking.{Fine, none, one}
 use Rattle.layout.proofs.Laid.{written-out}
@@ -85,7 +85,7 @@ module _ (file d : List ℕ) (opens : openFault file ≡ sound) where
 
   -- The state before the table is written.
   abbrev begins : State
-  begins = record { layout = l; writing = true; says = accepted (placeFrom l (length rs)); bytes = headerBytes l header ++ drop (headerSize l) d }
+  begins = record { layout = l; writing = true; says = accepted (pixelsFrom l (length rs)); bytes = headerBytes l header ++ drop (headerSize l) d }
 
   -- What `ready` leaves: a refusal, or that state.
   pub data Begun (z : State) : Type 0 where
@@ -125,7 +125,7 @@ module _ (file d : List ℕ) (opens : openFault file ≡ sound) where
     pub room : length d ≡ total
     pub says : relayoutSays file (length d) ≡ accepted total
     pub is : z ≡ begins
-    pub starts : first ≡ placeFrom l (length rs)
+    pub starts : first ≡ pixelsFrom l (length rs)
 
   pub goes : {z : State} {first : ℕ} → Begun z → accepted first ≡ z .says → Goes z first
   goes (ends s turned says e b) a = absurd (subst Refuses (sym e ∙ sym a) turned)
@@ -143,17 +143,17 @@ module _ (file d : List ℕ) (opens : openFault file ≡ sound) where
     each-sound k below = ap (λ (i : ℕ). frameFault false file (recordAt file i)) (sym (zero-add k)) ∙ g .all k below
 
     abbrev front : List ℕ
-    front = headerBytes l header ++ tableBytes l (placed (placeFrom l (length rs)) rs)
+    front = headerBytes l header ++ tableBytes l (placed (pixelsFrom l (length rs)) rs)
 
     abbrev tail : List ℕ
-    tail = drop (placeFrom l (length rs)) d
+    tail = drop (pixelsFrom l (length rs)) d
 
     front-is : length front ≡ first
     front-is = front-length l rs header ∙ sym (g .starts)
 
     spool-is : (pixels : List ℕ) → spoolBytes l rs shop pixels ≡ front ++ pixels
     unfolding spoolBytes
-    spool-is pixels = sym (append-assoc (headerBytes l header) (tableBytes l (placed (placeFrom l (length rs)) rs)) pixels)
+    spool-is pixels = sym (append-assoc (headerBytes l header) (tableBytes l (placed (pixelsFrom l (length rs)) rs)) pixels)
 
     all-length : length (front ++ tail) ≤ first + length (pixelsOf file)
     all-length =
@@ -161,7 +161,7 @@ module _ (file d : List ℕ) (opens : openFault file ≡ sound) where
         let f = g .starts in
         let h = g .room in
         let w = front-is in
-        let t : length tail ≡ length d - placeFrom l (length rs) = length-drop (placeFrom l (length rs)) d in
+        let t : length tail ≡ length d - pixelsFrom l (length rs) = length-drop (pixelsFrom l (length rs)) d in
         rw (length-append front tail) (omega (arith, e, f, h, w, t))
 
     copied-in : over (spoolBytes l rs shop tail) first (pixelsOf file) ≡ relaid file

@@ -4,7 +4,7 @@ use Prim.Native.Nat.{ℕ, _+_, _-_, _≤_}
 use native.Mathlib.Omega.{arith}
 use mathlib.Core.Path.{_≡_, refl, sym, ap, ap₂, _∙_}
 use mathlib.Core.List.{List, [], _++_, append-assoc}
-use lib.ListN.{length, take, drop, length-append, length-take, length-drop, take-append-drop}
+use lib.ListN.{length, take, drop, length-append, take-append-drop}
 use Rattle.relayout.specs.HowCarried.{over}
 use Rattle.layout.proofs.Written.{copied, put-there}
 use Rattle.layout.proofs.Writing.{over-length, over-take, over-drop}
@@ -29,7 +29,3 @@ pub copied-over : (d : List ℕ) {a b part : List ℕ} (at : ℕ) → at ≤ len
     → part ≡ take (length a) a ++ drop (length a) (take (length d - at) (drop at d))
     → take at d ++ (part ++ drop (length d - at) (drop at d)) ≡ over d at b
 copied-over d {a} {b} {part} at h e f = put-there d b part at (length b) h (copied (take (length d - at) (drop at d)) e f)
-
--- There is room for a part as long as what was there.
-pub part-fits : (d part : List ℕ) (at : ℕ) → at + length part ≤ length d → length part ≤ length (take (length d - at) (drop at d))
-part-fits d part at h = simp (length-take, length-drop) (omega arith)

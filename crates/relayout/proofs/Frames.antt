@@ -23,7 +23,7 @@ use Rattle.spool.specs.Find.{FindSaid, finds, recordAt, pixelsOutside, frameFau
 use Rattle.spool.proofs.FindFaults.{by-record, found, finds-sound, refuses-faulty, Sound, sound-record}
 use Rattle.layout.specs.LayOut.{allPixels}
 use Rattle.layout.specs.HowLaidOut.{State, visited, walked}
-use Rattle.relayout.specs.Relayout.{recordsFrom, framesSay, pixelsFrom}
+use Rattle.relayout.specs.Relayout.{recordsFrom, framesSay, framePixelsFrom}
 
 -- What is found of a frame that the spool has: its record, which is sound, or the record's fault.
 module _ (file : List ℕ) (k : ℕ) (opens : openFault file ≡ sound) (below : k < headerOf file .count) {f : Found} (said : findSaid f ≡ saysOf false file k) where
@@ -45,12 +45,12 @@ module _ (file : List ℕ) (count k : ℕ) where
   unfolding recordsFrom
   records-more below = rw (left below)
 
-  pub pixels-more : k < count → pixelsFrom file (count - k) k ≡ framePixels file k ++ pixelsFrom file (count - (k + 1)) (k + 1)
-  unfolding pixelsFrom
+  pub pixels-more : k < count → framePixelsFrom file (count - k) k ≡ framePixels file k ++ framePixelsFrom file (count - (k + 1)) (k + 1)
+  unfolding framePixelsFrom
   pixels-more below = rw (left below)
 
-  pub pixels-none : count ≤ k → pixelsFrom file (count - k) k ≡ []
-  unfolding pixelsFrom
+  pub pixels-none : count ≤ k → framePixelsFrom file (count - k) k ≡ []
+  unfolding framePixelsFrom
   pixels-none past = rw (none-left past)
 
   says-more : (done : Said) → k < count → frameFault false file (recordAt file k) ≡ sound → framesSay file done (count - k) k ≡ framesSay file done (count - (k + 1)) (k + 1)
@@ -158,10 +158,10 @@ nothing-said file (suc left) k all x =
     rw (now-sound file left k all) (nothing-said file left (k + 1) (later-sound file left k all) x)
 
 -- The pixels of sound frames.
-pub pixels-length : (file : List ℕ) (left k : ℕ) → openFault file ≡ sound → k + left ≤ headerOf file .count → AllSound file left k → length (pixelsFrom file left k) ≡ allPixels (recordsFrom file left k)
-unfolding pixelsFrom recordsFrom
+pub pixels-length : (file : List ℕ) (left k : ℕ) → openFault file ≡ sound → k + left ≤ headerOf file .count → AllSound file left k → length (framePixelsFrom file left k) ≡ allPixels (recordsFrom file left k)
+unfolding framePixelsFrom recordsFrom
 pixels-length file zero k opens few all = refl
 pixels-length file (suc left) k opens few all =
     let one : length (framePixels file k) ≡ pixelBytes (recordAt file k .frame) = frame-length file k opens (omega arith) (now-sound file left k all) in
     let rest = pixels-length file left (k + 1) opens (omega arith) (later-sound file left k all) in
-    length-append (framePixels file k) (pixelsFrom file left (k + 1)) ∙ ap₂ (λ (a b : ℕ). a + b) one rest
+    length-append (framePixels file k) (framePixelsFrom file left (k + 1)) ∙ ap₂ (λ (a b : ℕ). a + b) one rest

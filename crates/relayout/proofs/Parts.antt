@@ -19,7 +19,7 @@ use Rattle.spool.specs.Open.{openFault}
 use Rattle.spool.specs.Find.{FindSaid, finds, recordAt, findSays, framePixels}
 use Rattle.spool.specs.Rows.{rowOfSaid, extentOf, frameRow}
 use Rattle.layout.specs.LayOut.{allPixels}
-use Rattle.relayout.specs.Relayout.{recordsFrom, pixelsFrom}
+use Rattle.relayout.specs.Relayout.{recordsFrom, framePixelsFrom}
 use Rattle.relayout.proofs.Frames.{AllSound, now-sound, later-sound, frame-length}
 
 -- Record i of those from frame k on.
@@ -33,18 +33,18 @@ records-at file (suc left) k (suc i) below =
 
 -- The pixels of frame i among those from frame k on.
 pub pixels-at : (file : List ℕ) (left k i : ℕ) → openFault file ≡ sound → k + left ≤ headerOf file .count → AllSound file left k → i < left
-    → take (pixelBytes (recordAt file (k + i) .frame)) (drop (allPixels (take i (recordsFrom file left k))) (pixelsFrom file left k)) ≡ framePixels file (k + i)
-unfolding recordsFrom pixelsFrom
+    → take (pixelBytes (recordAt file (k + i) .frame)) (drop (allPixels (take i (recordsFrom file left k))) (framePixelsFrom file left k)) ≡ framePixels file (k + i)
+unfolding recordsFrom framePixelsFrom
 pixels-at file zero k i opens few all below = absurd (omega arith)
 pixels-at file (suc left) k zero opens few all below =
     let start : k + 0 ≡ k = add-zero k in
     let long = frame-length file k opens (omega arith) (now-sound file left k all) in
-    rw start (take-at (framePixels file k) (pixelsFrom file left (k + 1)) (pixelBytes (recordAt file k .frame)) long)
+    rw start (take-at (framePixels file k) (framePixelsFrom file left (k + 1)) (pixelBytes (recordAt file k .frame)) long)
 pixels-at file (suc left) k (suc i) opens few all below =
     let long = frame-length file k opens (omega arith) (now-sound file left k all) in
     let next : k + suc i ≡ k + 1 + i = omega arith in
     let before = allPixels (take i (recordsFrom file left (k + 1))) in
-    let rest = pixelsFrom file left (k + 1) in
+    let rest = framePixelsFrom file left (k + 1) in
     rw next
     (ap (λ (n : ℕ). take (pixelBytes (recordAt file (k + 1 + i) .frame)) (drop (n + before) (framePixels file k ++ rest))) (sym long)
     ∙ ap (take (pixelBytes (recordAt file (k + 1 + i) .frame))) (drop-append-add (framePixels file k) rest before)

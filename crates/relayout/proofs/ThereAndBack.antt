@@ -28,7 +28,7 @@ use Rattle.spool.specs.Rows.{frameRow}
 use Rattle.spool.proofs.OpenFaults.{opens-sound}
 use Rattle.spool.proofs.FindFaults.{whole, Whole, sound-record}
 use Rattle.spool.proofs.Small.{record-at-small}
-use Rattle.layout.specs.LayOut.{lengthLimit, pixelsFrom as placeFrom, allPixels, totalLength, roomSays, placed, tableBytes, headerFor, spoolBytes}
+use Rattle.layout.specs.LayOut.{lengthLimit, pixelsFrom, allPixels, totalLength, roomSays, placed, tableBytes, headerFor, spoolBytes}
 use Rattle.layout.specs.RoundTrip.{AllOfWidths, pixelPlace, HoldsRecords}
 use Rattle.layout.proofs.RoundTrip.{Fits, room-accepted, front-length, holds, long, placed-length, placed-at, placed-fits}
 use Rattle.relayout.specs.Relayout.{target, recordsFrom, recordsOf, framesSay, relayoutSays, pixelsOf, relaid}
@@ -60,7 +60,7 @@ module _ (l : Layout) (file : List ℕ) (c : Carriable file) (small : totalLengt
   header = headerFor l (length rs) shop (totalLength l rs)
 
   abbrev front : List ℕ
-  front = headerBytes l header ++ tableBytes l (placed (placeFrom l (length rs)) rs)
+  front = headerBytes l header ++ tableBytes l (placed (pixelsFrom l (length rs)) rs)
 
   abbrev result : List ℕ
   result = spoolBytes l rs shop (pixelsOf file)
@@ -72,7 +72,7 @@ module _ (l : Layout) (file : List ℕ) (c : Carriable file) (small : totalLengt
   bytes-length : length (pixelsOf file) ≡ allPixels rs
   bytes-length = pixels-length file count 0 (c .opened) (le-of-eq (zero-add count)) (c .all)
 
-  front-is : length front ≡ placeFrom l (length rs)
+  front-is : length front ≡ pixelsFrom l (length rs)
   front-is = front-length l rs header
 
   fits : Fits l rs (length old)
@@ -85,10 +85,10 @@ module _ (l : Layout) (file : List ℕ) (c : Carriable file) (small : totalLengt
 
   spool-is : result ≡ old
   unfolding spoolBytes
-  spool-is = sym (append-assoc (headerBytes l header) (tableBytes l (placed (placeFrom l (length rs)) rs)) (pixelsOf file))
+  spool-is = sym (append-assoc (headerBytes l header) (tableBytes l (placed (pixelsFrom l (length rs)) rs)) (pixelsOf file))
 
-  same : spoolBytes l rs shop (drop (placeFrom l (length rs)) old) ≡ result
-  same = ap (spoolBytes l rs shop) (drop-at front (pixelsOf file) (placeFrom l (length rs)) front-is)
+  same : spoolBytes l rs shop (drop (pixelsFrom l (length rs)) old) ≡ result
+  same = ap (spoolBytes l rs shop) (drop-at front (pixelsOf file) (pixelsFrom l (length rs)) front-is)
 
   result-length : length result ≡ totalLength l rs
   result-length = ap length (sym same) ∙ long l rs shop old fits (c .each) (c .low)
@@ -247,7 +247,7 @@ module _ (file : List ℕ) (c : Carriable file) (out : totalLength (target file)
 
   -- The records of the result are those of the file, with their new offsets.
   abbrev moved-records : List FrameRecord
-  moved-records = placed (placeFrom (target file) (length all-records)) all-records
+  moved-records = placed (pixelsFrom (target file) (length all-records)) all-records
 
   file-many : length all-records ≡ headerOf file .count
   file-many = records-length file (headerOf file .count) 0
@@ -258,7 +258,7 @@ module _ (file : List ℕ) (c : Carriable file) (out : totalLength (target file)
   records-are : recordsOf first ≡ moved-records
   records-are =
       ext-getD noFrame (recordsOf first) moved-records
-      (first-many ∙ sym (header-is .1) ∙ sym file-many ∙ sym (placed-length all-records (placeFrom (target file) (length all-records))))
+      (first-many ∙ sym (header-is .1) ∙ sym file-many ∙ sym (placed-length all-records (pixelsFrom (target file) (length all-records))))
       one-by-one
     where
       one-by-one : (k : ℕ) → k < length (recordsOf first) → getD (recordsOf first) k noFrame ≡ getD moved-records k noFrame
@@ -270,24 +270,24 @@ module _ (file : List ℕ) (c : Carriable file) (out : totalLength (target file)
           ∙ ap (λ (i : ℕ). recordAt first i .frame) (zero-add k)
           ∙ ap (λ (s : StridedRecord). s .frame) (new-record k here)
           ∙ ap (withOffset (pixelPlace (target file) all-records k)) (sym (records-at file (headerOf file .count) 0 k there′ ∙ ap (λ (i : ℕ). recordAt file i .frame) (zero-add k)))
-          ∙ sym (placed-at all-records (placeFrom (target file) (length all-records)) k among)
+          ∙ sym (placed-at all-records (pixelsFrom (target file) (length all-records)) k among)
 
   as-many : length (recordsOf first) ≡ length all-records
-  as-many = ap length records-are ∙ placed-length all-records (placeFrom (target file) (length all-records))
+  as-many = ap length records-are ∙ placed-length all-records (pixelsFrom (target file) (length all-records))
 
   total-is : (l : Layout) → totalLength l (recordsOf first) ≡ totalLength l all-records
-  total-is l = ap₂ (λ (n p : ℕ). placeFrom l n + p) as-many (ap allPixels records-are ∙ all-placed all-records (placeFrom (target file) (length all-records)))
+  total-is l = ap₂ (λ (n p : ℕ). pixelsFrom l n + p) as-many (ap allPixels records-are ∙ all-placed all-records (pixelsFrom (target file) (length all-records)))
 
   place-is : (l : Layout) (k : ℕ) → pixelPlace l (recordsOf first) k ≡ pixelPlace l all-records k
   place-is l k =
-      ap₂ (λ (n p : ℕ). placeFrom l n + p) as-many (ap (λ (x : List FrameRecord). allPixels (take k x)) records-are ∙ before-placed k all-records (placeFrom (target file) (length all-records)))
+      ap₂ (λ (n p : ℕ). pixelsFrom l n + p) as-many (ap (λ (x : List FrameRecord). allPixels (take k x)) records-are ∙ before-placed k all-records (pixelsFrom (target file) (length all-records)))
 
   again : Carriable first
   again = record {
     opened = header-is .0;
     all = λ k below. ap (λ (i : ℕ). frameFault false first (recordAt first i)) (zero-add k) ∙ still-sound k below;
     low = rw (sym (header-is .2)) (c .low);
-    each = rw records-are (placed-fits all-records (placeFrom (target file) (length all-records)) (c .each) out);
+    each = rw records-are (placed-fits all-records (pixelsFrom (target file) (length all-records)) (c .each) out);
   }
 
   fits-back : totalLength (target first) (recordsOf first) ≤ lengthLimit

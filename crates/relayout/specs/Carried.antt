@@ -1,4 +1,4 @@
--- What carrying a spool to the other layout keeps, there and back.
+-- What a spool keeps in the other layout, there and back (rule 7.11).
 -- Assumes nothing.
 use Prim.Native.Nat.{ℕ, _≤_, _<_}
 use mathlib.Core.Path.{_≡_}

@@ -35,12 +35,12 @@ relayoutSays file room =
     refusesOr (openFault file) (framesSay file (roomSays (totalLength (target file) (recordsOf file)) room) (headerOf file .count) 0)
 
 -- The pixels of so many frames from frame k on, one frame after another.
-unfoldable pub pixelsFrom : List ℕ → ℕ → ℕ → List ℕ
-pixelsFrom file zero k = []
-pixelsFrom file (suc left) k = framePixels file k ++ pixelsFrom file left (k + 1)
+unfoldable pub framePixelsFrom : List ℕ → ℕ → ℕ → List ℕ
+framePixelsFrom file zero k = []
+framePixelsFrom file (suc left) k = framePixels file k ++ framePixelsFrom file left (k + 1)
 
 abbrev pub pixelsOf : List ℕ → List ℕ
-pixelsOf file = pixelsFrom file (headerOf file .count) 0
+pixelsOf file = framePixelsFrom file (headerOf file .count) 0
 
 -- What the destination holds if it accepts: the same records, each with rows without gaps and its new offset, and the same pixels.
 abbrev pub relaid : List ℕ → List ℕ

@@ -50,7 +50,7 @@ fn check_frames(file: &[u8], count: usize) -> Answer
     Answer::Done(total)
 }
 
-// Writes the table of an open spool whose frames are sound.
+// Writes the table of an open spool whose frames are sound, so that none of them is refused here.
 fn write_table(file: &[u8], count: usize, start: Progress, dst: &mut [u8]) -> Progress
     requires { ⌜ (openFault (now file) ≡ sound) × (count ≡ headerOf (now file) .count) ⌝ }
     requires { ⌜ ((k : ℕ) → k < count → frameFault false (now file) (recordAt (now file) k) ≡ sound) ⌝ }

@@ -1,8 +1,7 @@
 -- Which fault a header and a spool have, from the tests that find it.
 -- Assumes nothing.
-use Prim.Native.Nat.{ℕ, _*_, _≤_, _<_}
+use Prim.Native.Nat.{ℕ, _≤_, _<_}
 use native.Mathlib.Omega.{arith}
-use native.Mathlib.Nat.{mul-le-mul}
 use mathlib.Core.Path.{_≡_, refl, sym, ap, _∙_}
 use mathlib.Core.Bool.{not, _||_}
 use mathlib.Core.List.{List}
@@ -13,12 +12,10 @@ use Rattle.refusal.specs.Answers.{Verdict, sound, faulty}
 use Rattle.refusal.proofs.Verdicts.{passed}
 use Rattle.records.specs.declared.Header.{Header}
 use Rattle.records.specs.declared.Layout.{Layout}
-use Rattle.records.specs.declared.Layout.the-variants.{Strided}
 use Rattle.records.specs.Layout.{layoutOf, headerOf, headerIn, headerSize, recordSize}
 use Rattle.records.specs.Faults.{frameLimit}
 use Rattle.spool.specs.Open.{opens, refusesFile, headerFault, openFault, openBy, tableEnd}
 use Rattle.numbers.proofs.Booleans.{or-false}
-use Rattle.records.proofs.Sizes.{record-sizes}
 
 -- The faults of a header.
 module _ (l : Layout) (h : Header) (size : ℕ) where
@@ -49,10 +46,6 @@ module _ (l : Layout) (h : Header) (size : ℕ) where
           pub no-fault : tableEnd l h ≤ size → sound ≡ headerFault l h size
           unfolding headerFault
           no-fault inside = simp (eq-eqb _ _ same, eq-eqb _ _ sized, le-ltb _ _ few, le-ltb _ _ behind, le-ltb _ _ inside)
-
--- The bytes of a table.
-pub table-small : (l : Layout) {size count most : ℕ} → size ≡ recordSize l → count ≤ most → size * count ≤ recordSize Strided * most
-table-small l e few = rw e (mul-le-mul (record-sizes l .1) few)
 
 -- The fault of a file: its header is missing, or its header's fault.
 module _ (file : List ℕ) {l : Layout} (told : l ≡ layoutOf file) where

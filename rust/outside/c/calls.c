@@ -116,6 +116,15 @@ static void clipped_pixels(void)
         }
 }
 
+/* Do bytes that were set to 0x5a before a call still have that value? */
+static int untouched(const uint8_t *bytes, size_t length)
+{
+    for (size_t k = 0; k < length; k++)
+        if (bytes[k] != 0x5a)
+            return 0;
+    return 1;
+}
+
 /* Is a conversion to sRGB refused with this number, and leaves it the destination and the count as they were? */
 static int to_srgb_refused(int number, uint32_t depth, const uint8_t *codes, size_t codes_len, size_t room,
                            size_t at)
@@ -131,10 +140,7 @@ static int to_srgb_refused(int number, uint32_t depth, const uint8_t *codes, siz
     if (kiosk_to_srgb(depth, codes, codes_len, eight, room, &place, &none) != -number || none != 0
         || place != at)
         return 0;
-    for (size_t k = 0; k < sizeof eight; k++)
-        if (eight[k] != 0x5a)
-            return 0;
-    return 1;
+    return untouched(eight, sizeof eight);
 }
 
 /* All pixels are clipped, so that a count of those before a fault would show. */
@@ -747,10 +753,7 @@ static int relayout_refused(int number, size_t at, const uint8_t *file, size_t f
     memset(dst, 0x5a, sizeof dst);
     if (kiosk_relayout(file, file_len, dst, room, &place) != -number || place != at)
         return 0;
-    for (size_t k = 0; k < sizeof dst; k++)
-        if (dst[k] != 0x5a)
-            return 0;
-    return 1;
+    return untouched(dst, sizeof dst);
 }
 
 /* The two frames, whose second row starts in the gap if the stride is 6: 12 and 6 bytes of pixels. */
@@ -842,10 +845,7 @@ static int lists(const uint8_t *file, size_t file_len, const char *expected)
     memset(text, 0x5a, sizeof text);
     if (kiosk_listing(file, file_len, text) != length || memcmp(text, expected, length) != 0)
         return 0;
-    for (size_t k = length; k < sizeof text; k++)
-        if (text[k] != 0x5a)
-            return 0;
-    return 1;
+    return untouched(text + length, sizeof text - length);
 }
 
 static void listings(void)

@@ -9,9 +9,9 @@ use Rattle.records.specs.Layout.{headerSize, recordSize}
 use Rattle.records.specs.Faults.{frameLimit}
 use Rattle.records.proofs.Sizes.{record-sizes}
 use Rattle.layout.specs.LayOut.{lengthLimit, pixelsFrom}
-use Rattle.layout.proofs.Places.{place-small}
+use Rattle.layout.proofs.Places.{place-small, place-is}
 use Rattle.layout.proofs.Written.{prefix-length, prefix-short}
-use Rattle.layout.proofs.Begun.{stop-state, header-fits, begin-too-long, begin-wrong-room, first-is, begins}
+use Rattle.layout.proofs.Begun.{stop-state, header-fits, begin-too-long, begin-wrong-room, begins}
 use borrow.Author.Needs.{needs}
 use Rattle.layout.proofs.begin.Statement.{statement}
 use Rattle.layout.proofs.begin.Tie as tie
@@ -49,7 +49,7 @@ stop-requires-2 c κs = search needs
 returns-2 : tie.Need-returns-2
 returns-2 c =
     let at = c .before .before .before .before .before .before .args in
-    let first = first-is (at .layout) (at .count) (at .shop) (at .pixels) (at .dst .now) (c .before .before .before .header-size .ensures) (c .before .before .record-size .ensures) in
+    let first = place-is (at .layout) (c .before .before .before .header-size .ensures) (c .before .before .record-size .ensures) (at .count) in
     let long : lengthLimit < pixelsFrom (at .layout) (at .count) + at .pixels = rw first at (c .before .if2 .taken) in
     stop-state (at .dst .now) (c .stop2 .ensures) ∙ begin-too-long (at .layout) (at .count) (at .shop) (at .pixels) (at .dst .now) long
 
@@ -59,7 +59,7 @@ stop-requires-3 c κs = search needs
 returns-3 : tie.Need-returns-3
 returns-3 c =
     let at = c .before .before .before .before .before .before .before .args in
-    let first = first-is (at .layout) (at .count) (at .shop) (at .pixels) (at .dst .now) (c .before .before .before .before .header-size .ensures) (c .before .before .before .record-size .ensures) in
+    let first = place-is (at .layout) (c .before .before .before .before .header-size .ensures) (c .before .before .before .record-size .ensures) (at .count) in
     let fits : pixelsFrom (at .layout) (at .count) + at .pixels ≤ lengthLimit = rw first at (c .before .before .if2 .left) in
     stop-state (at .dst .now) (c .stop3 .ensures) ∙ begin-wrong-room (at .layout) (at .count) (at .shop) (at .pixels) (at .dst .now) fits (rw first at (c .before .if3 .taken))
 

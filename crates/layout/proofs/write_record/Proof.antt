@@ -12,7 +12,7 @@ use Rattle.records.specs.Faults.{frameLimit}
 use Rattle.records.proofs.Sizes.{record-sizes}
 use Rattle.layout.specs.LayOut.{recordPlace}
 use Rattle.layout.proofs.Places.{place-small, place-is}
-use Rattle.layout.proofs.Written.{prefix-length, prefix-fits, record-there, record-copied, not-writing, past-limit, past-length, no-room, put-record}
+use Rattle.layout.proofs.Written.{prefix-length, prefix-short, room-behind, record-there, record-copied, not-writing, past-limit, past-length, no-room, put-record}
 use borrow.Author.Needs.{needs}
 use Rattle.layout.proofs.write_record.Statement.{statement}
 use Rattle.layout.proofs.write_record.Tie as tie
@@ -90,7 +90,7 @@ part-copy-end : tie.Need-part-copy-end
 part-copy-end c = search needs
 
 copy-requires : tie.Need-copy-requires
-copy-requires c κs = prefix-fits (c .before .before .strided-bytes .result) (c .before .before .before .before .before .before .before .before .before .before .before .before .args .dst .now) (c .before .before .before .before .before .before .header-size .result + c .before .before .before .before .before .before .before .record-size .result * c .before .before .before .before .before .before .before .before .before .before .before .before .args .place) (c .before .before .before .before .before .before .before .record-size .result) (omega (arith, c .before .before .before .before .before .if4 .left))
+copy-requires c κs = prefix-short (c .before .before .strided-bytes .result) (c .before .before .before .before .before .before .before .record-size .result) _ (room-behind (c .before .before .before .before .before .before .before .before .before .before .before .before .args .dst .now) (c .before .before .before .before .before .before .header-size .result + c .before .before .before .before .before .before .before .record-size .result * c .before .before .before .before .before .before .before .before .before .before .before .before .args .place) (c .before .before .before .before .before .before .before .record-size .result) (omega (arith, c .before .before .before .before .before .if4 .left)))
 
 same-length : tie.Need-same-length
 same-length c = search needs

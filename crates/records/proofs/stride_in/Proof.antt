@@ -5,7 +5,8 @@ use native.Mathlib.Nat.{lt-of-le-of-lt}
 use mathlib.Core.Path.{sym, ap, _∙_}
 use lib.Dec.{lit<}
 use Rattle.records.specs.declared.Layout.{Layout}
-use Rattle.records.specs.Layout.{recordSize, strideIn}
+use Rattle.records.specs.Layout.{recordSize}
+use Rattle.records.specs.HowStored.{strideIn}
 use Rattle.records.proofs.Fields.{stride-read}
 use Rattle.records.proofs.Layouts.{room-for}
 use Rattle.records.proofs.Sizes.{row-small}

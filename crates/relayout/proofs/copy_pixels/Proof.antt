@@ -6,10 +6,11 @@ use native.Mathlib.Nat.{sub-zero}
 use mathlib.Core.Path.{_≡_, refl, sym, ap, _∙_}
 use mathlib.Core.List.{List, _++_}
 use lib.ListN.{length, length-append}
-use Rattle.relayout.specs.Relayout.{pixelsFrom}
+use Rattle.relayout.specs.Relayout.{framePixelsFrom}
 use Rattle.relayout.specs.HowCarried.{over}
 use Rattle.relayout.proofs.Frames.{pixels-more, pixels-none}
-use Rattle.relayout.proofs.Copying.{over-none, same-length as kept-length, over-more, copied-over, part-fits}
+use Rattle.relayout.proofs.Copying.{over-none, same-length as kept-length, over-more, copied-over}
+use Rattle.layout.proofs.Written.{room-behind}
 use borrow.Author.Needs.{needs}
 use Rattle.relayout.proofs.copy_pixels.Statement.{statement}
 use Rattle.relayout.proofs.copy_pixels.Tie as tie
@@ -18,8 +19,8 @@ abbrev Inv-loop : tie.InvT-loop
 Inv-loop file count first dst₀ end₀ k₀ dst end k =
     (k ≤ count)
     × (length dst ≡ length dst₀)
-    × (end + length (pixelsFrom file (count - k) k) ≤ length dst₀)
-    × (over dst end (pixelsFrom file (count - k) k) ≡ over dst₀ first (pixelsFrom file count 0))
+    × (end + length (framePixelsFrom file (count - k) k) ≤ length dst₀)
+    × (over dst end (framePixelsFrom file (count - k) k) ≡ over dst₀ first (framePixelsFrom file count 0))
 
 abbrev μ-loop : tie.MeasureT-loop
 μ-loop file count first dst₀ end₀ k₀ dst end k = count - k
@@ -27,8 +28,8 @@ abbrev μ-loop : tie.MeasureT-loop
 loop-holds : tie.Need-loop-holds Inv-loop μ-loop
 loop-holds c =
     let at = c .before .before in
-    let all : pixelsFrom (at .args .file .now) (at .args .count - 0) 0 ≡ pixelsFrom (at .args .file .now) (at .args .count) 0 = ap (λ (n : ℕ). pixelsFrom (at .args .file .now) n 0) (sub-zero (at .args .count)) in
-    let room : at .args .first + length (pixelsFrom (at .args .file .now) (at .args .count - 0) 0) ≤ length (at .args .dst .now) = rw (all, at .pre .0) (at .pre .1) in
+    let all : framePixelsFrom (at .args .file .now) (at .args .count - 0) 0 ≡ framePixelsFrom (at .args .file .now) (at .args .count) 0 = ap (λ (n : ℕ). framePixelsFrom (at .args .file .now) n 0) (sub-zero (at .args .count)) in
+    let room : at .args .first + length (framePixelsFrom (at .args .file .now) (at .args .count - 0) 0) ≤ length (at .args .dst .now) = rw (all, at .pre .0) (at .pre .1) in
     (omega arith, refl, room, ap (over (at .args .dst .now) (at .args .first)) all)
 
 pixels-requires : tie.Need-pixels-requires Inv-loop μ-loop
@@ -49,8 +50,8 @@ room-for c =
     let at = c .before .before .before .before .before .before in
     let loop = c .before .before .before .loop in
     let part = c .before .pixels .result .now in
-    let rest = pixelsFrom (at .args .file .now) (at .args .count - (loop .k + 1)) (loop .k + 1) in
-    let more : pixelsFrom (at .args .file .now) (at .args .count - loop .k) (loop .k) ≡ part ++ rest =
+    let rest = framePixelsFrom (at .args .file .now) (at .args .count - (loop .k + 1)) (loop .k + 1) in
+    let more : framePixelsFrom (at .args .file .now) (at .args .count - loop .k) (loop .k) ≡ part ++ rest =
     pixels-more (at .args .file .now) (at .args .count) (loop .k) (c .before .before .loop-test .taken) ∙ ap (λ (x : List ℕ). x ++ rest) (sym (c .before .pixels .ensures .bytes)) in
     let all : length (part ++ rest) ≡ length part + length rest = length-append part rest in
     let room : loop .end + length (part ++ rest) ≤ length (at .args .dst .now) = rw more at (loop .inv .2) in
@@ -60,7 +61,7 @@ room-for c =
 copy-requires : tie.Need-copy-requires Inv-loop μ-loop
 copy-requires c κs =
     let loop = c .before .before .before .loop in
-    part-fits (loop .dst) (c .before .pixels .result .now) (loop .end) (room-for c)
+    room-behind (loop .dst) (loop .end) (length (c .before .pixels .result .now)) (room-for c)
 
 add-end : tie.Need-add-end Inv-loop μ-loop
 add-end c = search needs
@@ -78,8 +79,8 @@ loop-again c =
     let below = c .before .before .before .before .before .loop-test .taken in
     let part = c .before .before .before .before .pixels .result .now in
     let is = c .before .before .before .before .pixels .ensures .bytes in
-    let rest = pixelsFrom (at .args .file .now) (at .args .count - (loop .k + 1)) (loop .k + 1) in
-    let more : pixelsFrom (at .args .file .now) (at .args .count - loop .k) (loop .k) ≡ part ++ rest = pixels-more (at .args .file .now) (at .args .count) (loop .k) below ∙ ap (λ (x : List ℕ). x ++ rest) (sym is) in
+    let rest = framePixelsFrom (at .args .file .now) (at .args .count - (loop .k + 1)) (loop .k + 1) in
+    let more : framePixelsFrom (at .args .file .now) (at .args .count - loop .k) (loop .k) ≡ part ++ rest = pixels-more (at .args .file .now) (at .args .count) (loop .k) below ∙ ap (λ (x : List ℕ). x ++ rest) (sym is) in
     let all : length (part ++ rest) ≡ length part + length rest = length-append part rest in
     let room : loop .end + length (part ++ rest) ≤ length (at .args .dst .now) = rw more at (loop .inv .2) in
     let fits : loop .end + length part ≤ length (loop .dst) = room-for (c .before .before .before) in
@@ -100,7 +101,7 @@ returns c =
     let loop = c .before .loop in
     sym (ap (over (loop .dst) (loop .end)) (pixels-none (at .args .file .now) (at .args .count) (loop .k) (c .loop-test .left)) ∙ over-none (loop .dst) (loop .end))
     ∙ loop .inv .3
-    ∙ ap (λ (n : ℕ). over (at .args .dst .now) (at .args .first) (pixelsFrom (at .args .file .now) n 0)) (at .pre .0)
+    ∙ ap (λ (n : ℕ). over (at .args .dst .now) (at .args .first) (framePixelsFrom (at .args .file .now) n 0)) (at .pre .0)
 
 pub copy-pixels-spec : {M : Type 1} → statement M
 copy-pixels-spec =

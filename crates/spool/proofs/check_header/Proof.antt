@@ -4,7 +4,8 @@ use Prim.Native.Nat.{_+_, _*_, _≤_, _<_}
 use native.Mathlib.Omega.{arith}
 use mathlib.Core.Path.{sym, _∙_}
 use Rattle.records.specs.Layout.{recordSize, headerSize}
-use Rattle.spool.proofs.OpenFaults.{wrong-length, wrong-record-size, too-many, table-early, table-past, no-fault, table-small}
+use Rattle.spool.proofs.OpenFaults.{wrong-length, wrong-record-size, too-many, table-early, table-past, no-fault}
+use Rattle.records.proofs.Sizes.{table-small}
 use borrow.Author.Needs.{needs}
 use Rattle.spool.proofs.check_header.Statement.{statement}
 use Rattle.spool.proofs.check_header.Tie as tie

@@ -5,8 +5,8 @@ use native.Mathlib.Omega.{arith}
 use mathlib.Core.Path.{subst, _∙_}
 use lib.ListN.{length}
 use Rattle.records.specs.Layout.{ReadsRecord, layoutOf, headerOf, recordSize}
-use Rattle.spool.proofs.OpenFaults.{table-small}
 use Rattle.spool.proofs.FindFaults.{opened, record-inside, record-there, shut-spool, no-such-frame, by-record}
+use Rattle.records.proofs.Sizes.{table-small}
 use borrow.Author.Needs.{needs}
 use Rattle.spool.proofs.frame_at.Statement.{statement}
 use Rattle.spool.proofs.frame_at.Tie as tie

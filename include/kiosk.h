@@ -90,14 +90,8 @@ struct kiosk_record {
 
 /* A frame's record with its stride: the 20 bytes that it has in a strided spool. */
 struct kiosk_strided_record {
-    uint32_t offset; /* of the frame's pixels, from the start of the file */
-    uint16_t width;
-    uint16_t height;
-    uint8_t kind;
-    uint8_t bits;
-    uint16_t copies;
-    uint32_t order;
-    uint32_t stride; /* the bytes from the start of a row to the start of the next */
+    struct kiosk_record record; /* as kiosk_find gives it and kiosk_lay_out takes it */
+    uint32_t stride;            /* the bytes from the start of a row to the start of the next */
 };
 
 /* ---- Pictures (rule 4). Conversions give the pixel count, or refuse with 9, 10, 16, 11, 12 or 13, in the

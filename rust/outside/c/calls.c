@@ -665,20 +665,21 @@ static int row_is(const uint8_t *file, size_t file_len, size_t number, size_t ro
 
 static void strided_spools(void)
 {
-    struct kiosk_strided_record record;
+    struct kiosk_strided_record found;
     uint16_t shop = 0;
     uint32_t table = 0;
     size_t next = 0;
 
-    CHECK(sizeof record == 20);
+    CHECK(sizeof found == 20);
     CHECK(kiosk_open(gapped, sizeof gapped, &shop, &table) == 2 && shop == 7 && table == 16);
-    CHECK(kiosk_find_strided(gapped, sizeof gapped, 0, &record) == 14);
-    CHECK(record.offset == 56 && record.width == 2 && record.height == 2 && record.kind == KIOSK_SRGB);
-    CHECK(record.bits == 8 && record.copies == 1 && record.order == 502 && record.stride == 8);
-    CHECK(kiosk_step_strided(gapped, sizeof gapped, &next, &record) == 14 && next == 1 && record.stride == 8);
-    CHECK(kiosk_step_strided(gapped, sizeof gapped, &next, &record) == 6 && next == 2 && record.stride == 64);
-    CHECK(kiosk_step_strided(gapped, sizeof gapped, &next, &record) == -KIOSK_NO_SUCH_FRAME && next == 2);
-    CHECK(record.offset == 0 && record.order == 0 && record.stride == 0);
+    CHECK(kiosk_find_strided(gapped, sizeof gapped, 0, &found) == 14);
+    CHECK(found.record.offset == 56 && found.record.width == 2 && found.record.height == 2 && found.stride == 8);
+    CHECK(found.record.kind == KIOSK_SRGB && found.record.bits == 8);
+    CHECK(found.record.copies == 1 && found.record.order == 502);
+    CHECK(kiosk_step_strided(gapped, sizeof gapped, &next, &found) == 14 && next == 1 && found.stride == 8);
+    CHECK(kiosk_step_strided(gapped, sizeof gapped, &next, &found) == 6 && next == 2 && found.stride == 64);
+    CHECK(kiosk_step_strided(gapped, sizeof gapped, &next, &found) == -KIOSK_NO_SUCH_FRAME && next == 2);
+    CHECK(found.record.offset == 0 && found.record.order == 0 && found.stride == 0);
 
     CHECK(row_is(gapped, sizeof gapped, 0, 0, 6, 56) && row_is(gapped, sizeof gapped, 0, 1, 6, 64));
     CHECK(row_is(gapped, sizeof gapped, 0, 2, 0, 0) && row_is(gapped, sizeof gapped, 0, SIZE_MAX, 0, 0));
@@ -691,20 +692,20 @@ static void strided_spools(void)
 /* A step leaves a frame with a wrong stride behind, and stays at a header with another size of records. */
 static void strided_walk(void)
 {
-    struct kiosk_strided_record record;
+    struct kiosk_strided_record found;
     struct kiosk_record plain;
     uint8_t file[76];
     size_t next = 0, plain_next = 0;
 
     memcpy(file, gapped, sizeof gapped);
     file[32] = 5;
-    CHECK(kiosk_step_strided(file, sizeof file, &next, &record) == -KIOSK_WRONG_STRIDE && next == 1);
+    CHECK(kiosk_step_strided(file, sizeof file, &next, &found) == -KIOSK_WRONG_STRIDE && next == 1);
     CHECK(kiosk_step(file, sizeof file, &plain_next, &plain) == -KIOSK_WRONG_STRIDE && plain_next == 1);
-    CHECK(kiosk_step_strided(file, sizeof file, &next, &record) == 6 && next == 2 && record.offset == 70);
+    CHECK(kiosk_step_strided(file, sizeof file, &next, &found) == 6 && next == 2 && found.record.offset == 70);
     CHECK(kiosk_step(file, sizeof file, &plain_next, &plain) == 6 && plain_next == 2 && plain.offset == 70);
     file[14] = 21;
     next = plain_next = 1;
-    CHECK(kiosk_step_strided(file, sizeof file, &next, &record) == -KIOSK_WRONG_RECORD_SIZE && next == 1);
+    CHECK(kiosk_step_strided(file, sizeof file, &next, &found) == -KIOSK_WRONG_RECORD_SIZE && next == 1);
     CHECK(kiosk_step(file, sizeof file, &plain_next, &plain) == -KIOSK_WRONG_RECORD_SIZE && plain_next == 1);
 }
 
@@ -712,7 +713,7 @@ static void strided_walk(void)
  * 16 bytes of the records and the next number are the same, and a refused record is zeros. */
 static int found_alike(const uint8_t *file, size_t file_len, size_t number)
 {
-    static const struct kiosk_strided_record zeros = {0, 0, 0, 0, 0, 0, 0, 0};
+    static const struct kiosk_strided_record zeros = {{0, 0, 0, 0, 0, 0, 0}, 0};
     struct kiosk_strided_record found, stepped;
     struct kiosk_record plain, plain_stepped;
     size_t next = number, plain_next = number;
@@ -760,7 +761,7 @@ static int relayout_refused(int number, size_t at, const uint8_t *file, size_t f
 static void other_layout(void)
 {
     uint8_t strided[76], plain[63], again[75], zero[16];
-    struct kiosk_strided_record record;
+    struct kiosk_strided_record found;
     size_t place = 77;
 
     memcpy(strided, gapped, sizeof gapped);
@@ -770,12 +771,13 @@ static void other_layout(void)
     CHECK(kiosk_relayout(strided, sizeof strided, plain, 62, &place) == 62);
     CHECK(plain[0] == 2 && plain[2] == 7 && plain[4] == 12 && plain[8] == 62 && plain[62] == 0x5a);
     CHECK(memcmp(plain + 44, gapped + 56, 12) == 0 && memcmp(plain + 56, gapped + 70, 6) == 0);
-    CHECK(kiosk_find_strided(plain, 62, 1, &record) == 6 && record.offset == 56 && record.stride == 6);
+    CHECK(kiosk_find_strided(plain, 62, 1, &found) == 6 && found.record.offset == 56 && found.stride == 6);
     CHECK(kiosk_relayout(plain, 62, again, 74, &place) == 74);
     CHECK(again[74] == 0x5a && memcmp(again + 56, plain + 44, 18) == 0);
-    CHECK(kiosk_find_strided(again, 74, 0, &record) == 12 && record.offset == 56 && record.stride == 6);
-    CHECK(kiosk_find_strided(again, 74, 1, &record) == 6 && record.offset == 68 && record.stride == 6);
-    CHECK(record.kind == KIOSK_ESRGB && record.bits == 12 && record.copies == 3 && record.order == 502);
+    CHECK(kiosk_find_strided(again, 74, 0, &found) == 12 && found.record.offset == 56 && found.stride == 6);
+    CHECK(kiosk_find_strided(again, 74, 1, &found) == 6 && found.record.offset == 68 && found.stride == 6);
+    CHECK(found.record.kind == KIOSK_ESRGB && found.record.bits == 12);
+    CHECK(found.record.copies == 3 && found.record.order == 502);
 
     memcpy(zero, gapped, 16);
     zero[8] = 16;

@@ -44,7 +44,7 @@ extern "C" {
 enum kiosk_refusal {
     KIOSK_TOO_SHORT = 1,                 /* a spool shorter than its header */
     KIOSK_WRONG_FILE_LENGTH = 2,         /* the length in the header is not the file's */
-    KIOSK_TOO_MANY_FRAMES = 3,           /* more than 255 frames */
+    KIOSK_TOO_MANY_FRAMES = 3,           /* more than KIOSK_FRAME_LIMIT frames */
     KIOSK_TABLE_OUTSIDE = 4,             /* the record table is not inside the file behind the header */
     KIOSK_NO_SUCH_FRAME = 5,             /* no frame has this number */
     KIOSK_UNKNOWN_KIND = 6,              /* kind and bits are no pair that a picture has */
@@ -205,6 +205,9 @@ int64_t kiosk_stickers(const uint8_t *src, size_t src_len, const uint16_t tints[
  * strided: its header has 16 bytes, its records have 20, and a record's stride leaves gaps between the rows where it
  * is above the bytes that a row's pixels take. Every other file is plain: a header of 12 bytes, records of 16, and no
  * gaps. All functions that read a spool take both. ---- */
+
+/* The most frames of a spool, of either layout. */
+#define KIOSK_FRAME_LIMIT 255
 
 /* Opens a spool: gives the frame count, and *shop and *table (the offset of the record table). Refuses
  * with 1, 2, 20, 3 or 4, in this order, and then both keep what they held. Only a strided spool gets 20. */

@@ -1,4 +1,4 @@
--- What the records of a spool may say (rules 7.3 and 7.4), and how many there may be.
+-- What the records of a spool may say (rules 7.3 and 7.4), and how many there may be (7.2).
 -- Assumes nothing.
 use Prim.Native.Nat.{ℕ}
 use mathlib.Core.Bool.{Bool, false, cond, not, _||_, _&&_}
@@ -9,7 +9,7 @@ use Rattle.records.specs.declared.FrameRecord.{FrameRecord}
 use Rattle.records.specs.declared.StridedRecord.{StridedRecord}
 use Rattle.records.specs.Pixels.{rowBytes, hasGaps}
 
--- Rules 7.5 and 7.8, 3: the most frames that a spool has.
+-- Rule 7.2: the most frames that a spool has.
 abbrev pub frameLimit : ℕ
 frameLimit = 255
 

@@ -217,6 +217,9 @@ pub struct Record {
 // The library writes a record as 16 bytes, the low byte of each number first.
 const _: () = assert!(size_of::<Record>() == 16 && cfg!(target_endian = "little"));
 
+/// The most frames of a spool (rule 7.2): the header's KIOSK_FRAME_LIMIT.
+pub const FRAME_LIMIT: usize = 255;
+
 /// What an open spool holds.
 #[derive(Clone, Copy, Debug, PartialEq, Eq)]
 pub struct Contents {

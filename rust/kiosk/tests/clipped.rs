@@ -2,7 +2,7 @@
 
 mod shared;
 
-use kiosk::Record;
+use kiosk::{Record, FRAME_LIMIT};
 use shared::{fails, folder, kiosk, one_frame, text, wide};
 use std::fs::{self, File};
 use std::path::Path;
@@ -338,18 +338,19 @@ fn checks_without_a_reader() {
     }
 }
 
-/// A spool whose frames all have the same 2 million pixels, a check of which takes long.
-fn long_spool(frames: u8) -> Vec<u8> {
-    let start = 12 + 16 * u32::from(frames);
-    let length = start + 6 * 2048 * 1024;
-    let mut file = vec![frames, 0, 7, 0, 12, 0, 0, 0];
-    file.extend(length.to_le_bytes());
+/// A spool whose frames all have the same 8 million pixels, a check of which takes long.
+fn long_spool(frames: usize) -> Vec<u8> {
+    let start = 12 + 16 * frames;
+    let length = start + 6 * 4096 * 2048;
+    let mut file = (frames as u16).to_le_bytes().to_vec();
+    file.extend([7, 0, 12, 0, 0, 0]);
+    file.extend((length as u32).to_le_bytes());
     for _ in 0..frames {
-        file.extend(start.to_le_bytes());
-        // 2,048 times 1,024 pixels of luma and chroma of 16 bits; one copy, order 1.
-        file.extend([0, 8, 0, 4, 3, 16, 1, 0, 1, 0, 0, 0]);
+        file.extend((start as u32).to_le_bytes());
+        // 4,096 times 2,048 pixels of luma and chroma of 16 bits; one copy, order 1.
+        file.extend([0, 16, 0, 8, 3, 16, 1, 0, 1, 0, 0, 0]);
     }
-    file.resize(length as usize, 0x80);
+    file.resize(length, 0x80);
     file
 }
 
@@ -398,18 +399,18 @@ fn progress_on_a_terminal() {
         return;
     }
     let folder = folder("progress");
-    let mut frames = 60;
+    let mut frames = 15;
     let (piped, terminal) = loop {
         write(&folder, "in", &long_spool(frames));
         let (piped, terminal, time) = on_pipe_and_terminal(&folder);
         if time > Duration::from_secs(1) {
             break (piped, terminal);
         }
-        assert!(frames < 255, "the longest check took {time:?} only");
-        frames = frames.saturating_mul(2);
+        assert!(frames < FRAME_LIMIT, "the longest check took {time:?} only");
+        frames = FRAME_LIMIT.min(2 * frames);
     };
     let mut lines: Vec<String> = (0..frames)
-        .map(|k| format!("frame {k}: sound, {}", sentence(0, 2048 * 1024)))
+        .map(|k| format!("frame {k}: sound, {}", sentence(0, 4096 * 2048)))
         .collect();
     lines.push(String::new());
     assert_eq!(text(&piped.stdout), lines.join("\n"));

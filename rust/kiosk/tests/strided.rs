@@ -2,6 +2,7 @@
 
 mod shared;
 
+use kiosk::FRAME_LIMIT;
 use shared::{fails, folder, kiosk, one_frame, text, wide};
 use std::fs;
 use std::path::Path;
@@ -283,16 +284,20 @@ fn refuses_the_other_layout() {
     refused("long", &long_together(), too_long);
 }
 
-/// A plain spool of 255 frames over the same 17,203,200 bytes.
+/// A plain spool of the most frames, all over the same bytes: by themselves they are longer than a spool can be.
 fn long_together() -> Vec<u8> {
-    let start = 12 + 255 * 16;
-    let length = start + 3 * 4096 * 1400;
-    let mut file = vec![255, 0, 7, 0, 12, 0, 0, 0];
+    let start = 12 + 16 * FRAME_LIMIT;
+    let rows = (1 << 32) / (3 * 8192 * FRAME_LIMIT) + 1;
+    let length = start + 3 * 8192 * rows;
+    let mut file = (FRAME_LIMIT as u16).to_le_bytes().to_vec();
+    file.extend([7, 0, 12, 0, 0, 0]);
     file.extend((length as u32).to_le_bytes());
-    // 4,096 times 1,400 pixels of sRGB; one copy, order 1.
+    // So many rows of 8,192 pixels of sRGB; one copy, order 1.
     let mut record = (start as u32).to_le_bytes().to_vec();
-    record.extend([0, 16, 120, 5, 1, 8, 1, 0, 1, 0, 0, 0]);
-    file.extend(record.repeat(255));
+    record.extend([0, 32]);
+    record.extend((rows as u16).to_le_bytes());
+    record.extend([1, 8, 1, 0, 1, 0, 0, 0]);
+    file.extend(record.repeat(FRAME_LIMIT));
     file.resize(length, 0);
     file
 }

@@ -821,20 +821,24 @@ static void other_layout_refused(void)
     CHECK(relayout_refused(KIOSK_TOO_SHORT, 77, file, 15, 62));
 }
 
-/* 255 frames that share the same 17 million bytes: their sum is too long for a spool. */
+/* The bytes of a row of 8,192 pixels, and so many rows that only all frames together are too long for a spool. */
+#define LONG_ROW (3 * 8192)
+#define LONG_ROWS (4294967295u / (LONG_ROW * KIOSK_FRAME_LIMIT) + 1)
+
+/* The most frames, which share the same bytes. */
 static void other_layout_too_long(void)
 {
-    static uint8_t file[12 + 255 * 16 + 3 * 4096 * 1400];
-    const uint32_t start = 12 + 255 * 16, length = sizeof file;
-    const struct kiosk_record record = {start, 4096, 1400, KIOSK_SRGB, 8, 1, 501};
-    const uint8_t header[8] = {255, 0, 7, 0, 12, 0, 0, 0};
+    static uint8_t file[12 + 16 * KIOSK_FRAME_LIMIT + LONG_ROW * LONG_ROWS];
+    const uint32_t start = 12 + 16 * KIOSK_FRAME_LIMIT, length = sizeof file;
+    const struct kiosk_record record = {start, 8192, LONG_ROWS, KIOSK_SRGB, 8, 1, 501};
+    const uint8_t header[8] = {KIOSK_FRAME_LIMIT, 0, 7, 0, 12, 0, 0, 0};
 
     memcpy(file, header, sizeof header);
     memcpy(file + 8, &length, 4);
-    for (size_t k = 0; k < 255; k++)
+    for (size_t k = 0; k < KIOSK_FRAME_LIMIT; k++)
         memcpy(file + 12 + 16 * k, &record, sizeof record);
     CHECK(relayout_refused(KIOSK_TOTAL_TOO_LONG, 77, file, sizeof file, 62));
-    file[0] = 249;
+    file[0]--;
     CHECK(relayout_refused(KIOSK_WRONG_DESTINATION_LENGTH, 77, file, sizeof file, 62));
 }
 

@@ -4,7 +4,7 @@
 #![forbid(unsafe_code)]
 
 use outside::{sound_records, spool_file, Random};
-use reference::spool::{listing, Layout, Record};
+use reference::spool::{listing, Layout, Record, FRAME_LIMIT};
 use std::fs::{self, File};
 use std::path::Path;
 use std::process::{Command, Stdio};
@@ -167,7 +167,7 @@ fn damaged_spools() {
     }
 }
 
-/// Spools of 255 frames and of the lengths around the greatest that is listed; with the file's length in the
+/// Spools of the most frames and of the lengths around the greatest that is listed; with the file's length in the
 /// header, and with another.
 #[test]
 fn limits() {
@@ -185,11 +185,11 @@ fn limits() {
     let lengths = [65_534, 65_535, 65_536, 65_537, 65_538, 70_000, 1 << 20];
     let layouts = [Layout::Plain, Layout::Strided];
     for (length, layout) in lengths.into_iter().flat_map(|n| layouts.map(|l| (n, l))) {
-        let mut file = layout.write_header(255, 0, length as u32);
-        file.extend(frame.write(layout).repeat(255));
+        let mut file = layout.write_header(FRAME_LIMIT as u16, 0, length as u32);
+        file.extend(frame.write(layout).repeat(FRAME_LIMIT));
         file.resize(length, 0);
         let printed = list(&file, "long");
-        let lines = if length <= 65_536 { 1 + 255 } else { 1 };
+        let lines = if length <= 65_536 { 1 + FRAME_LIMIT } else { 1 };
         assert_eq!(printed.lines().count(), lines, "{length} bytes");
         file[8] ^= 1;
         let refusal = if length <= 65_536 { 2 } else { 15 };

@@ -14,6 +14,9 @@ pub enum Layout {
 /// What the first two bytes of a strided spool say.
 const STRIDED: u64 = 65_535;
 
+/// The most frames of a spool (rule 7.2).
+pub const FRAME_LIMIT: usize = 255;
+
 /// The greatest length that a header can hold.
 const LONGEST: u64 = 4_294_967_295;
 
@@ -206,7 +209,7 @@ pub fn open(file: &[u8]) -> Result<Contents, Refusal> {
         Layout::Strided if number(&file[14..16]) != 20 => return Err(Refusal::plain(20)),
         Layout::Strided => number(&file[12..14]),
     };
-    if count > 255 {
+    if count > FRAME_LIMIT as u64 {
         return Err(Refusal::plain(3));
     }
     let table = number(&file[4..8]);
@@ -290,7 +293,7 @@ fn head_of(layout: Layout, records: &[Record], shop: u16, total: usize) -> Vec<u
 
 /// Lays out a plain spool. Accepted, it gives the total length.
 pub fn lay_out(records: &[Record], shop: u16, dst: &mut [u8]) -> Result<usize, Refusal> {
-    if records.len() > 255 {
+    if records.len() > FRAME_LIMIT {
         return Err(Refusal::plain(3));
     }
     for (place, record) in records.iter().enumerate() {

@@ -1,7 +1,7 @@
 //! Spool files.
 
 use outside::{by_both, put_length, said, sound_record, Random, PAIRS};
-use reference::spool::{self, Contents, Record};
+use reference::spool::{self, Contents, Record, FRAME_LIMIT};
 use std::borrow::Cow;
 use std::ops::Range;
 
@@ -140,7 +140,7 @@ pub fn compare_relayout(file: &[u8]) -> u64 {
 /// the reference. Gives how many answers were compared.
 pub fn compare(file: &[u8]) -> u64 {
     let count = compare_open(file);
-    let numbers = (0..count + 2).chain([255, 256, 1 << 32, usize::MAX]);
+    let numbers = (0..count + 2).chain([FRAME_LIMIT, 256, 1 << 32, usize::MAX]);
     let mut compared = 1 + compare_relayout(file);
     for number in numbers {
         let answer = said(found(file, kiosk::find(file, number)));
@@ -254,11 +254,13 @@ pub fn spools() -> u64 {
         compared += compare(&file);
     }
     // The most frames, and one more.
-    let many: Vec<Record> = (0..255).map(|_| sound_record(&mut random)).collect();
+    let many: Vec<Record> = (0..FRAME_LIMIT)
+        .map(|_| sound_record(&mut random))
+        .collect();
     let file = spool_of(&many, 7, &mut random);
     compared += compare(&file);
     let mut more = file;
-    more[0..2].copy_from_slice(&256u16.to_le_bytes());
+    more[0..2].copy_from_slice(&(FRAME_LIMIT as u16 + 1).to_le_bytes());
     compared + compare(&more)
 }
 
@@ -322,7 +324,7 @@ pub fn layouts() -> u64 {
         lay_out(&records, random.number() as u16, &before);
         count += 1;
     }
-    // 255 records and one more; totals above the limit, which the room cannot have.
+    // The most records and more; totals above the limit, which the room cannot have.
     let frame = sound_record(&mut random);
     let large = Record {
         width: 8192,
@@ -332,17 +334,17 @@ pub fn layouts() -> u64 {
         ..frame
     };
     for records in [
-        vec![frame; 256],
+        vec![frame; FRAME_LIMIT + 1],
         vec![frame; 300],
         vec![large; 10],
         vec![large; 11],
-        vec![large; 255],
-        vec![large; 256],
+        vec![large; FRAME_LIMIT],
+        vec![large; FRAME_LIMIT + 1],
     ] {
         lay_out(&records, 1, &random.bytes(100));
         count += 1;
     }
-    let fitting = vec![frame; 255];
+    let fitting = vec![frame; FRAME_LIMIT];
     spool_of(&fitting, 9, &mut random);
     count + 1
 }

@@ -2,7 +2,7 @@
 
 use super::spools::{compare, compare_relayout};
 use outside::{put, put_length, said, sound_record, sound_records, spool_file, with_gaps, Random};
-use reference::spool::{self, Layout, Record};
+use reference::spool::{self, Layout, Record, FRAME_LIMIT};
 
 const BOTH: [Layout; 2] = [Layout::Plain, Layout::Strided];
 
@@ -100,7 +100,8 @@ pub fn several_bytes() -> u64 {
 /// Short files with every start that is near the limits, and headers with every count and size of records near theirs.
 pub fn headers() -> u64 {
     let mut compared = 0;
-    for first in [0u16, 1, 255, 256, 65_279, 65_280, 65_534, 65_535] {
+    let most = FRAME_LIMIT as u16;
+    for first in [0, 1, most, most + 1, 65_279, 65_280, 65_534, 65_535] {
         for length in 0..40 {
             for table in [11u32, 12, 13, 15, 16, 17] {
                 let mut file = vec![0; length];
@@ -116,7 +117,7 @@ pub fn headers() -> u64 {
     let mut random = Random::new(33);
     let file = spool_file(Layout::Strided, &[srgb(2, 2)], 7, &mut random);
     for size in [0u16, 12, 16, 19, 20, 21, 276, 5_120, 65_535] {
-        for count in [0u16, 1, 2, 255, 256, 65_535] {
+        for count in [0, 1, 2, most, most + 1, 65_535] {
             let mut file = file.clone();
             put(&mut file, 12, count.to_le_bytes());
             put(&mut file, 14, size.to_le_bytes());
@@ -357,7 +358,7 @@ pub fn fewest_and_most() -> u64 {
     let mut compared = compare(&plain) + compare(&strided);
     let mut random = Random::new(37);
     for layout in BOTH {
-        let records = vec![srgb(1, 1); 256];
+        let records = vec![srgb(1, 1); FRAME_LIMIT + 1];
         let most = spool_file(layout, &records[1..], 7, &mut random);
         assert_eq!(numbers(&most), [None; 3]);
         let more = spool_file(layout, &records, 7, &mut random);
@@ -373,13 +374,15 @@ const LONGEST: u64 = 4_294_967_295;
 /// Sizes of frames of three bytes a pixel, which make a spool of exactly this length in a layout: frames of one size, a
 /// lower one and one of a row.
 fn sizes_of(layout: Layout, total: u64) -> Option<Vec<(u16, u16)>> {
-    (700..720).find_map(|height| {
+    // From this height on, all of it is no more frames than a spool has.
+    let least = (total / 3 / 8_192 / (FRAME_LIMIT as u64 - 2) + 1) as u16;
+    (least..=8_192).find_map(|height| {
         let whole = 8_192 * u64::from(height);
         let count = total / 3 / whole;
         let table = (layout.header() + layout.record() * (count as usize + 2)) as u64;
         let left = (total - table).checked_sub(3 * count * whole)?;
         let (rows, rest) = (left / 3 / 8_192, left / 3 % 8_192);
-        if left % 3 != 0 || rows == 0 || rest == 0 || count + 2 > 255 {
+        if left % 3 != 0 || rows == 0 || rest == 0 {
             return None;
         }
         let mut sizes = vec![(8_192, height); count as usize];

@@ -2,6 +2,7 @@
 //! sRGB begins, for both runs of the blue of rule 10.5 and for a walk over the sample file. The program `vectors` over
 //! the proved library must print the same.
 
+use reference::spool::FRAME_LIMIT;
 use reference::{light, samples, spool};
 
 fn spool_with(count: u16, width: u16, length: usize) -> Vec<u8> {
@@ -94,8 +95,8 @@ fn spools() {
         let refusal = spool::find(&file, 0).map_or_else(|refusal| refusal.number, |_| 0);
         println!("width {width} {refusal}");
     }
-    for count in [255, 256] {
-        let file = spool_with(count, 0, 12 + 16 * 256);
+    for count in [FRAME_LIMIT, FRAME_LIMIT + 1] {
+        let file = spool_with(count as u16, 0, 12 + 16 * count);
         let refusal = spool::open(&file).map_or_else(|refusal| refusal.number, |_| 0);
         println!("frames {count} {refusal}");
     }

@@ -13,6 +13,7 @@ use records::packed;
 use records::pixel_bytes;
 use records::record_size;
 use records::strided_bytes;
+use records::too_many_frames;
 use records::with_offset;
 use refusal::Answer;
 use refusal::Checked;
@@ -160,7 +161,7 @@ pub fn ready(checked: Progress, count: usize, shop: u16, dst: &mut [u8]) -> Prog
     ensures { λ r. ⌜ stateOf r (now (dst .exit)) ≡ readied count shop (stateOf checked (now (dst .entry))) ⌝ }
 {
     let layout = checked.layout;
-    if FRAME_LIMIT < count {
+    if too_many_frames(count) {
         return stop(layout, Answer::Refused(Refusal::TooManyFrames));
     }
     let answer = checked.answer;

@@ -1,6 +1,7 @@
 // The header and the records of a spool file, in either of its layouts: their numbers, read from bytes
-// and written as bytes, and what a record may say. It promises every number and every byte of rule 7.2's
-// layouts, and the refusals of a record by rules 7.3 and 7.4; it asks nothing of a caller.
+// and written as bytes, what a record may say, and how many there may be. It promises every number and every
+// byte of rule 7.2's layouts, its limit of frames, and the refusals of a record by rules 7.3 and 7.4; it asks
+// nothing of a caller.
 use esrgb::Offer;
 use numbers::four_bytes;
 use numbers::from_four;
@@ -12,6 +13,7 @@ use samples::pixel_size;
 ghost use mathlib.Core.Path.{_≡_};
 ghost use Prim.Native.Nat.{_+_, _≤_};
 ghost use lib.ListN.{length, take, drop};
+ghost use lib.Dec.{ltb};
 ghost use Rattle.esrgb.specs.Depths.{offered};
 ghost use Rattle.numbers.specs.Bytes.{littleEndian};
 ghost use Rattle.refusal.specs.Answers.{verdict};
@@ -19,7 +21,7 @@ ghost use Rattle.records.specs.declared.Layout.the-variants.{Plain, Stri
 ghost use Rattle.records.specs.Layout.{headerSize, recordSize, firstNumber, layoutOf, otherLayout, noRecord, withOffset, headerIn, recordIn, recordBytes, ReadsHeader, ReadsRecord};
 ghost use Rattle.records.specs.HowStored.{frameIn, strideIn, longHeader};
 ghost use Rattle.records.specs.Pixels.{rowBytes, pixelBytes, spanBytes, hasGaps, packed};
-ghost use Rattle.records.specs.Faults.{isPair, badSide, recordFault, strideFault};
+ghost use Rattle.records.specs.Faults.{frameLimit, isPair, badSide, recordFault, strideFault};
 
 // The bytes of a header and of a record, in the plain layout and in the strided one.
 const HEADER_SIZE: usize = 12;
@@ -407,7 +409,14 @@ pub fn packed(frame: FrameRecord) -> StridedRecord
     }
 }
 
-// ---- what a record may say
+// ---- how many frames there may be, and what a record may say
+
+// Are these more frames than a spool has?
+pub fn too_many_frames(count: usize) -> bool
+    ensures { λ r. ⌜ r ≡ ltb frameLimit count ⌝ }
+{
+    FRAME_LIMIT < count
+}
 
 // Does e-sRGB, or luma and chroma, have this many bits?
 fn is_deep(bits: u8) -> bool

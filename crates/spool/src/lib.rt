@@ -1,7 +1,6 @@
 // Opening a spool file of either layout, finding a frame in it, and the rows of a frame (rules 7.5, 7.6 and
 // 7.9). It promises the refusals in their order for any bytes at all, every field of what it reads, and where
 // in the lent file a frame's pixels and its rows lie; it asks nothing of a caller.
-use records::FRAME_LIMIT;
 use records::Header;
 use records::HeaderRead;
 use records::Layout;
@@ -16,6 +15,7 @@ use records::read_record;
 use records::record_size;
 use records::row_bytes;
 use records::span_bytes;
+use records::too_many_frames;
 use refusal::Checked;
 use refusal::Refusal;
 ghost use mathlib.Core.Path.{_≡_};
@@ -48,7 +48,7 @@ fn check_header(layout: Layout, header: Header, size: usize) -> Checked
         return Checked::Faulty(Refusal::WrongRecordSize);
     }
     let count = header.count as usize;
-    if FRAME_LIMIT < count {
+    if too_many_frames(count) {
         return Checked::Faulty(Refusal::TooManyFrames);
     }
     let table = header.table as usize;

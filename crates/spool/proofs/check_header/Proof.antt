@@ -4,8 +4,10 @@ use Prim.Native.Nat.{_+_, _*_, _≤_, _<_}
 use native.Mathlib.Omega.{arith}
 use mathlib.Core.Path.{sym, _∙_}
 use Rattle.records.specs.Layout.{recordSize, headerSize}
+use Rattle.records.specs.Faults.{frameLimit}
 use Rattle.spool.proofs.OpenFaults.{wrong-length, wrong-record-size, too-many, table-early, table-past, no-fault}
 use Rattle.records.proofs.Sizes.{table-small}
+use Rattle.records.proofs.Limits.{many-frames, few-frames}
 use borrow.Author.Needs.{needs}
 use Rattle.spool.proofs.check_header.Statement.{statement}
 use Rattle.spool.proofs.check_header.Tie as tie
@@ -30,10 +32,13 @@ returns-2 c =
 cast-count : tie.Need-cast-count
 cast-count c = search needs
 
+too-many-frames-requires : tie.Need-too-many-frames-requires
+too-many-frames-requires c κs = search needs
+
 returns-3 : tie.Need-returns-3
 returns-3 c =
-    let at = c .before .before .before .before .before .before .before .args in
-    too-many (at .layout) (at .header) (at .size) (c .before .before .before .before .before .if1 .left) (c .before .before .if2 .left ∙ c .before .before .before .before .record-size .ensures) (omega (arith, c .if3 .taken))
+    let at = c .before .before .before .before .before .before .before .before .args in
+    too-many (at .layout) (at .header) (at .size) (c .before .before .before .before .before .before .if1 .left) (c .before .before .before .if2 .left ∙ c .before .before .before .before .before .record-size .ensures) (many-frames (c .before .too-many-frames .ensures) (c .if3 .taken))
 
 cast-table : tie.Need-cast-table
 cast-table c = search needs
@@ -43,31 +48,35 @@ header-size-requires c κs = search needs
 
 returns-4 : tie.Need-returns-4
 returns-4 c =
-    let at = c .before .before .before .before .before .before .before .before .before .before .args in
+    let at = c .before .before .before .before .before .before .before .before .before .before .before .args in
     let early : at .header .table < headerSize (at .layout) = rw (c .before .header-size .ensures) at (c .if4 .taken) in
-    table-early (at .layout) (at .header) (at .size) (c .before .before .before .before .before .before .before .before .if1 .left) (c .before .before .before .before .before .if2 .left ∙ c .before .before .before .before .before .before .before .record-size .ensures) (omega (arith, c .before .before .before .if3 .left)) early
+    table-early (at .layout) (at .header) (at .size) (c .before .before .before .before .before .before .before .before .before .if1 .left) (c .before .before .before .before .before .before .if2 .left ∙ c .before .before .before .before .before .before .before .before .record-size .ensures) (few-frames (c .before .before .before .before .too-many-frames .ensures) (c .before .before .before .if3 .left)) early
 
 mul-if5 : tie.Need-mul-if5
 mul-if5 c =
-    let small = table-small (c .before .before .before .before .before .before .before .before .before .before .args .layout) (c .before .before .before .before .before .before .before .record-size .ensures) (c .before .before .before .if3 .left) in
+    let at = c .before .before .before .before .before .before .before .before .before .before .before .args in
+    let few : at .header .count ≤ frameLimit = few-frames (c .before .before .before .before .too-many-frames .ensures) (c .before .before .before .if3 .left) in
+    let small = table-small (at .layout) (c .before .before .before .before .before .before .before .before .record-size .ensures) few in
     record { fits = omega (arith, small) }
 
 add-if5 : tie.Need-add-if5
 add-if5 c =
-    let small = table-small (c .before .before .before .before .before .before .before .before .before .before .args .layout) (c .before .before .before .before .before .before .before .record-size .ensures) (c .before .before .before .if3 .left) in
+    let at = c .before .before .before .before .before .before .before .before .before .before .before .args in
+    let few : at .header .count ≤ frameLimit = few-frames (c .before .before .before .before .too-many-frames .ensures) (c .before .before .before .if3 .left) in
+    let small = table-small (at .layout) (c .before .before .before .before .before .before .before .before .record-size .ensures) few in
     omega (arith, small)
 
 returns-5 : tie.Need-returns-5
 returns-5 c =
-    let at = c .before .before .before .before .before .before .before .before .before .before .before .args in
-    let past : at .size < at .header .table + recordSize (at .layout) * at .header .count = rw (c .before .before .before .before .before .before .before .before .record-size .ensures) at (c .if5 .taken) in
-    table-past (at .layout) (at .header) (at .size) (c .before .before .before .before .before .before .before .before .before .if1 .left) (c .before .before .before .before .before .before .if2 .left ∙ c .before .before .before .before .before .before .before .before .record-size .ensures) (omega (arith, c .before .before .before .before .if3 .left)) (rw (c .before .before .header-size .ensures) at (c .before .if4 .left)) past
+    let at = c .before .before .before .before .before .before .before .before .before .before .before .before .args in
+    let past : at .size < at .header .table + recordSize (at .layout) * at .header .count = rw (c .before .before .before .before .before .before .before .before .before .record-size .ensures) at (c .if5 .taken) in
+    table-past (at .layout) (at .header) (at .size) (c .before .before .before .before .before .before .before .before .before .before .if1 .left) (c .before .before .before .before .before .before .before .if2 .left ∙ c .before .before .before .before .before .before .before .before .before .record-size .ensures) (few-frames (c .before .before .before .before .before .too-many-frames .ensures) (c .before .before .before .before .if3 .left)) (rw (c .before .before .header-size .ensures) at (c .before .if4 .left)) past
 
 returns-6 : tie.Need-returns-6
 returns-6 c =
-    let at = c .before .before .before .before .before .before .before .before .before .before .before .args in
-    let inside : at .header .table + recordSize (at .layout) * at .header .count ≤ at .size = rw (c .before .before .before .before .before .before .before .before .record-size .ensures) at (c .if5 .left) in
-    no-fault (at .layout) (at .header) (at .size) (c .before .before .before .before .before .before .before .before .before .if1 .left) (c .before .before .before .before .before .before .if2 .left ∙ c .before .before .before .before .before .before .before .before .record-size .ensures) (omega (arith, c .before .before .before .before .if3 .left)) (rw (c .before .before .header-size .ensures) at (c .before .if4 .left)) inside
+    let at = c .before .before .before .before .before .before .before .before .before .before .before .before .args in
+    let inside : at .header .table + recordSize (at .layout) * at .header .count ≤ at .size = rw (c .before .before .before .before .before .before .before .before .before .record-size .ensures) at (c .if5 .left) in
+    no-fault (at .layout) (at .header) (at .size) (c .before .before .before .before .before .before .before .before .before .before .if1 .left) (c .before .before .before .before .before .before .before .if2 .left ∙ c .before .before .before .before .before .before .before .before .before .record-size .ensures) (few-frames (c .before .before .before .before .before .too-many-frames .ensures) (c .before .before .before .before .if3 .left)) (rw (c .before .before .header-size .ensures) at (c .before .if4 .left)) inside
 
 pub check-header-spec : {M : Type 1} → statement M
 check-header-spec =
@@ -79,6 +88,7 @@ check-header-spec =
     cast-if2
     returns-2
     cast-count
+    too-many-frames-requires
     returns-3
     cast-table
     header-size-requires

@@ -207,7 +207,7 @@ int64_t kiosk_stickers(const uint8_t *src, size_t src_len, const uint16_t tints[
  * gaps. All functions that read a spool take both. ---- */
 
 /* The most frames of a spool, of either layout. */
-#define KIOSK_FRAME_LIMIT 255
+#define KIOSK_FRAME_LIMIT 96
 
 /* Opens a spool: gives the frame count, and *shop and *table (the offset of the record table). Refuses
  * with 1, 2, 20, 3 or 4, in this order, and then both keep what they held. Only a strided spool gets 20. */
@@ -250,8 +250,8 @@ int64_t kiosk_lay_out(const struct kiosk_record *records, size_t records_len, ui
  * then with 14 or 11. A frame of two rows or more whose stride is above the bytes of a row gets 21 too. */
 int64_t kiosk_relayout(const uint8_t *file, size_t file_len, uint8_t *dst, size_t dst_len, size_t *place);
 
-/* The bytes to lend for a listing. Every listing fits. */
-#define KIOSK_LISTING_ROOM 16384
+/* The bytes to lend for a listing: the heading, and the longest line for each frame that a spool can have. */
+#define KIOSK_LISTING_ROOM (49 + 52 * KIOSK_FRAME_LIMIT)
 
 /* Writes the listing of a spool file (rules 9.1 to 9.4) at the start of `text` and gives its length;
  * the bytes behind it stay as they were, and no 0 is put there. The listing of a file that does not

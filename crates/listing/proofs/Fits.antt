@@ -19,7 +19,7 @@ use Rattle.spool.specs.Find.{FindSaid, finds, refusesFrame, findFault, findBy, 
 use Rattle.spool.proofs.OpenFaults.{open-file}
 use Rattle.spool.proofs.Small.{open-fault-short, find-fault-short, record-at-small}
 use Rattle.listing.specs.Text.{decimal, Buffer, putText}
-use Rattle.listing.specs.Listing.{refusedWord, fields, line, lines, spoolText, listing, listingRoom, inputLimit}
+use Rattle.listing.specs.Listing.{refusedWord, fields, line, lines, spoolText, listing, lineRoom, listingRoom, inputLimit}
 use Rattle.listing.proofs.Texts.{one-digit, more-digits, ends}
 use Rattle.refusal.specs.Answers.{Verdict, sound, faulty}
 
@@ -39,9 +39,6 @@ Short (finds s) = Small (s .frame)
 Short (refusesFrame n s) = TwoDigits (faulty n)
 
 -- No line is longer.
-abbrev lineRoom : ℕ
-lineRoom = 52
-
 line-short : (k : ℕ) (s : FindSaid) → k < frameLimit → Short s → length (line k s) ≤ lineRoom
 line-short k (finds s) below small =
     let r = s .frame in

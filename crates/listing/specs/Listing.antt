@@ -1,10 +1,11 @@
 -- The listing of a spool (rules, section 9).
 -- Assumes nothing.
-use Prim.Native.Nat.{ℕ, zero, suc, _+_}
+use Prim.Native.Nat.{ℕ, zero, suc, _+_, _*_}
 use mathlib.Core.Bool.{cond}
 use mathlib.Core.List.{List, [], _∷_, _++_}
 use lib.ListN.{length}
 use lib.Dec.{ltb}
+use Rattle.records.specs.Faults.{frameLimit}
 use Rattle.spool.specs.Open.{OpenSaid, opens, refusesFile, openSays}
 use Rattle.spool.specs.Find.{FindSaid, finds, refusesFrame, findSays}
 use Rattle.listing.specs.Text.{decimal}
@@ -48,6 +49,11 @@ inputLimit = 65536
 abbrev pub listing : List ℕ → List ℕ
 listing file = cond (ltb inputLimit (length file)) (refusedWord ++ fields (15 ∷ [])) (spoolText file (openSays file))
 
+-- Room for a line: three digits for the frame's number, ten for order and offset each, three for kind and bits, five for width, height
+-- and copies, and a byte behind each of the eight.
+abbrev pub lineRoom : ℕ
+lineRoom = 52
+
 -- Room for every listing: the heading, and a line for each of the most frames that a spool has.
 abbrev pub listingRoom : ℕ
-listingRoom = 16384
+listingRoom = length heading + lineRoom * frameLimit

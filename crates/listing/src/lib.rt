@@ -2,6 +2,7 @@
 // of the listing for any file; it asks nothing of a caller. A buffer that is too small gets as much of
 // the text as it has room for.
 use frames::step_from;
+use records::FRAME_LIMIT;
 use records::StridedRecord;
 use refusal::Refusal;
 use refusal::number;
@@ -19,10 +20,16 @@ ghost use Rattle.spool.specs.Find.{finds, findSaid};
 ghost use Rattle.listing.specs.Text.{decimal, put, putText};
 ghost use Rattle.listing.specs.Listing.{refusedWord, fields, line, lines, listing, listingRoom};
 
-// The longest file that is listed, and a length of text that no listing exceeds.
+// The longest file that is listed.
 pub const INPUT_LIMIT: usize = 65536;
 
-pub const LISTING_ROOM: usize = 16384;
+// The bytes of the heading, and of a line that has the most digits in each field.
+const HEADING_ROOM: usize = 49;
+
+const LINE_ROOM: usize = 52;
+
+// A length of text that no listing exceeds.
+pub const LISTING_ROOM: usize = HEADING_ROOM + LINE_ROOM * FRAME_LIMIT;
 
 // Adds one byte, if the buffer has room.
 fn put_byte(out: &mut [u8], at: usize, byte: u8) -> usize

@@ -11,7 +11,7 @@ use Rattle.records.specs.Pixels.{rowBytes, hasGaps}
 
 -- Rule 7.2: the most frames that a spool has.
 abbrev pub frameLimit : ℕ
-frameLimit = 255
+frameLimit = 96
 
 -- Rule 7.3: kinds, with their bits. sRGB and sYCC have 8, and e-sRGB, luma and chroma, and e-sYCC have a depth.
 abbrev pub isPair : ℕ → ℕ → Bool

@@ -36,7 +36,7 @@ pub const STRIDED_RECORD_SIZE: usize = 20;
 const STRIDED_MARK: u16 = 65535;
 
 // The most frames that a spool has.
-pub const FRAME_LIMIT: usize = 255;
+pub const FRAME_LIMIT: usize = 96;
 
 // The greatest width and height of a frame.
 const SIDE_LIMIT: u16 = 8192;

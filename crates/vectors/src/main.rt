@@ -142,16 +142,15 @@ fn open_refusal(file: &[u8]) -> u64 {
     }
 }
 
-// A spool with room for the records of 256 frames, and a count that is given by its bytes.
-fn frames_row(low: u8, high: u8) {
-    let mut file = [0u8; 4108];
-    file[0] = low;
-    file[1] = high;
+// A spool of so many frames, with room for the records of 97.
+fn frames_row(count: u8) {
+    let mut file = [0u8; 1564];
+    file[0] = count;
     file[4] = 12;
-    file[8] = 12;
-    file[9] = 16;
+    file[8] = 28;
+    file[9] = 6;
     io::write_all(STDOUT_FILENO, b"frames");
-    show(numbers::from_two(low, high) as u64);
+    show(count as u64);
     show(open_refusal(&file));
     end_line();
 }
@@ -257,8 +256,8 @@ fn main() {
     runs_row(12);
     width_row(0, 32);
     width_row(1, 32);
-    frames_row(255, 0);
-    frames_row(0, 1);
+    frames_row(96);
+    frames_row(97);
     step_rows();
     patch_row(0, 0);
     patch_row(10100, 10100);

@@ -178,7 +178,7 @@ mod c {
 }
 
 /// The bytes that are lent for a listing: the header's KIOSK_LISTING_ROOM.
-const LISTING_ROOM: usize = 16_384;
+const LISTING_ROOM: usize = 49 + 52 * crate::FRAME_LIMIT;
 
 /// What a call gives: its answer, the place if it wrote one, and the clipped pixels, which only a conversion to sRGB
 /// counts.

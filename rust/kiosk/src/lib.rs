@@ -218,7 +218,7 @@ pub struct Record {
 const _: () = assert!(size_of::<Record>() == 16 && cfg!(target_endian = "little"));
 
 /// The most frames of a spool (rule 7.2): the header's KIOSK_FRAME_LIMIT.
-pub const FRAME_LIMIT: usize = 255;
+pub const FRAME_LIMIT: usize = 96;
 
 /// What an open spool holds.
 #[derive(Clone, Copy, Debug, PartialEq, Eq)]

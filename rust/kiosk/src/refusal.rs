@@ -69,7 +69,7 @@ impl Fault {
         match self {
             Fault::TooShort => "the spool is shorter than its header",
             Fault::WrongFileLength => "the length in the header is not the file's",
-            Fault::TooManyFrames => "a spool has at most 255 frames",
+            Fault::TooManyFrames => "a spool has at most 96 frames",
             Fault::TableOutside => "the record table is not inside the file behind the header",
             Fault::NoSuchFrame => "no frame has this number",
             Fault::UnknownKind => "kind and bits are no pair that a picture has",

@@ -74,12 +74,12 @@ fn lists_a_refusal() {
         "refusal 2: the length in the header is not the file's",
     );
     let mut frames = spool();
-    frames[1] = 1;
+    frames[0] = 97;
     file("frames", &frames);
     refused(
         &["list", "frames"],
         3,
-        "refusal 3: a spool has at most 255 frames",
+        "refusal 3: a spool has at most 96 frames",
     );
     let mut table = spool();
     table[4] = 11;

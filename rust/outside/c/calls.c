@@ -860,7 +860,7 @@ static void listings(void)
     const uint8_t empty[12] = {0, 0, 7, 0, 12, 0, 0, 0, 12, 0, 0, 0};
     const char *heading = "frame order kind bits width height copies offset\n";
 
-    CHECK(KIOSK_LISTING_ROOM == 16384);
+    CHECK(KIOSK_LISTING_ROOM == 5041);
     CHECK(lists(empty, sizeof empty, heading));
     CHECK(lists(empty, 11, "refused 1\n"));
     CHECK(lists(longer, sizeof longer, "refused 15\n"));
@@ -872,6 +872,58 @@ static void listings(void)
     CHECK(lists(gapped, sizeof gapped, "frame order kind bits width height copies offset\n"
                                        "0 502 1 8 2 2 1 56\n1 502 2 12 1 1 3 70\n"));
     CHECK(lists(gapped, 15, "refused 1\n"));
+}
+
+/* A spool of the most frames is taken by each function that reads one. With one frame more in its header, whose low byte
+ * is at `count_at`, each refuses it: the table would still lie inside the file. */
+static void fullest_spool(uint8_t *file, size_t file_len, size_t count_at)
+{
+    static uint8_t text[KIOSK_LISTING_ROOM];
+    struct kiosk_record record;
+    uint16_t shop = 0;
+    uint32_t table = 0;
+    size_t next = 95, lines = 0;
+
+    CHECK(kiosk_open(file, file_len, &shop, &table) == 96 && shop == 7);
+    CHECK(kiosk_find(file, file_len, 95, &record) == 3 && record.order == 95);
+    CHECK(kiosk_find(file, file_len, 96, &record) == -KIOSK_NO_SUCH_FRAME);
+    CHECK(kiosk_step(file, file_len, &next, &record) == 3 && next == 96);
+    CHECK(row_is(file, file_len, 95, 0, 3, file_len - 3));
+    for (size_t k = kiosk_listing(file, file_len, text); k > 0; k--)
+        lines += text[k - 1] == '\n';
+    CHECK(lines == 1 + 96);
+
+    file[count_at] = 97;
+    next = 0;
+    CHECK(kiosk_open(file, file_len, &shop, &table) == -KIOSK_TOO_MANY_FRAMES);
+    CHECK(kiosk_find(file, file_len, 0, &record) == -KIOSK_TOO_MANY_FRAMES);
+    CHECK(kiosk_step(file, file_len, &next, &record) == -KIOSK_TOO_MANY_FRAMES && next == 0);
+    CHECK(row_is(file, file_len, 0, 0, -KIOSK_TOO_MANY_FRAMES, 77));
+    CHECK(lists(file, file_len, "refused 3\n"));
+    CHECK(relayout_refused(KIOSK_TOO_MANY_FRAMES, 77, file, file_len, 62));
+}
+
+/* 96 frames of one pixel, laid out and in the other layout; 97 are not laid out. */
+static void fullest_spools(void)
+{
+    const struct kiosk_record pixel = {0, 1, 1, KIOSK_SRGB, 8, 1, 0};
+    static struct kiosk_record records[97];
+    static uint8_t plain[12 + 96 * (16 + 3)], strided[16 + 96 * (20 + 3)];
+    size_t place = 77;
+
+    CHECK(KIOSK_FRAME_LIMIT == 96);
+    for (uint32_t k = 0; k < 97; k++) {
+        records[k] = pixel;
+        records[k].order = k;
+    }
+    memset(plain, 0x5a, sizeof plain);
+    CHECK(kiosk_lay_out(records, 97, 7, plain, sizeof plain, &place) == -KIOSK_TOO_MANY_FRAMES);
+    CHECK(untouched(plain, sizeof plain));
+    CHECK(kiosk_lay_out(records, 96, 7, plain, sizeof plain, &place) == (int64_t)sizeof plain);
+    CHECK(kiosk_relayout(plain, sizeof plain, strided, sizeof strided, &place) == (int64_t)sizeof strided);
+    CHECK(place == 77);
+    fullest_spool(plain, sizeof plain, 0);
+    fullest_spool(strided, sizeof strided, 12);
 }
 
 int main(void)
@@ -900,6 +952,7 @@ int main(void)
     other_layout_refused();
     other_layout_too_long();
     listings();
+    fullest_spools();
     printf("%d checks from C, %d failed\n", checks, failures);
     return failures != 0;
 }

@@ -44,8 +44,8 @@ const SAMPLES: [(&str, &[u8]); 14] = [
         b"\x00\x00\x07\x00\x0c\x00\x00\x00\x0d\x00\x00\x00",
     ),
     (
-        "256 frames: 3",
-        b"\x00\x01\x07\x00\x0c\x00\x00\x00\x0c\x00\x00\x00",
+        "97 frames: 3",
+        b"\x61\x00\x07\x00\x0c\x00\x00\x00\x0c\x00\x00\x00",
     ),
     (
         "a table inside the header: 4",
@@ -74,12 +74,12 @@ const SAMPLES: [(&str, &[u8]); 14] = [
         b"\xff\xff\x07\x00\x10\x00\x00\x00\x0f\x00\x00\x00\x00\x00\x14",
     ),
     (
-        "strided, 256 records of 16 bytes: 20",
-        b"\xff\xff\x07\x00\x10\x00\x00\x00\x10\x00\x00\x00\x00\x01\x10\x00",
+        "strided, 97 records of 16 bytes: 20",
+        b"\xff\xff\x07\x00\x10\x00\x00\x00\x10\x00\x00\x00\x61\x00\x10\x00",
     ),
     (
-        "strided, 256 frames: 3",
-        b"\xff\xff\x07\x00\x10\x00\x00\x00\x10\x00\x00\x00\x00\x01\x14\x00",
+        "strided, 97 frames: 3",
+        b"\xff\xff\x07\x00\x10\x00\x00\x00\x10\x00\x00\x00\x61\x00\x14\x00",
     ),
     (
         "strided, a table inside the header: 4",
@@ -87,11 +87,11 @@ const SAMPLES: [(&str, &[u8]); 14] = [
     ),
 ];
 
-/// 255 frames of one pixel each, all of the same three bytes.
+/// 96 frames of one pixel each, all of the same three bytes.
 fn fullest() -> Vec<u8> {
-    let mut file = b"\xff\x00\x07\x00\x0c\x00\x00\x00\xff\x0f\x00\x00".to_vec();
-    for order in 0..255 {
-        file.extend(b"\xfc\x0f\x00\x00\x01\x00\x01\x00\x01\x08\x01\x00");
+    let mut file = b"\x60\x00\x07\x00\x0c\x00\x00\x00\x0f\x06\x00\x00".to_vec();
+    for order in 0..96 {
+        file.extend(b"\x0c\x06\x00\x00\x01\x00\x01\x00\x01\x08\x01\x00");
         file.extend([order, 0, 0, 0]);
     }
     file.extend([0; 3]);
@@ -141,7 +141,7 @@ fn samples_as_stored() {
     let fullest = fullest();
     let mut files = SAMPLES.to_vec();
     files.push(("longer than 65,536 bytes: 15", &longer));
-    files.push(("255 frames", &fullest));
+    files.push(("96 frames", &fullest));
     let mut text = String::new();
     for (what, file) in files {
         text += &format!("{what}\n{}", list(file, "sample"));

@@ -15,7 +15,7 @@ pub enum Layout {
 const STRIDED: u64 = 65_535;
 
 /// The most frames of a spool (rule 7.2).
-pub const FRAME_LIMIT: usize = 255;
+pub const FRAME_LIMIT: usize = 96;
 
 /// The greatest length that a header can hold.
 const LONGEST: u64 = 4_294_967_295;

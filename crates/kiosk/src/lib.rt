@@ -6,7 +6,7 @@ use layout::lay_out;
 use linear::code_to_light;
 use linear::light_to_code;
 use listing::LISTING_ROOM;
-use listing::write_listing;
+use listing::write_whole_listing;
 use picture::Conversion;
 use picture::convert;
 use records::FrameRecord;
@@ -546,5 +546,5 @@ pub extern "C" fn kiosk_listing(file: &[u8], text: &mut [u8; LISTING_ROOM]) -> u
     ensures within { λ r. ⌜ r ≤ length (now (text .exit)) ⌝ }
     ensures buffer { λ r. ⌜ record { bytes = now (text .exit); at = r } ≡ putText (record { bytes = now (text .entry); at = 0 }) (listing (now (file .entry))) ⌝ }
 {
-    write_listing(file, text)
+    write_whole_listing(file, text)
 }

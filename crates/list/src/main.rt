@@ -6,18 +6,9 @@ use libc::STDIN_FILENO;
 use libc::STDOUT_FILENO;
 use listing::INPUT_LIMIT;
 use listing::LISTING_ROOM;
-ghost use mathlib.Core.Path.{_≡_};
+use listing::write_whole_listing;
 ghost use Prim.Native.Nat.{_≤_};
-ghost use lib.ListN.{length, take};
-ghost use Rattle.listing.specs.Listing.{listing};
-
-// The whole listing of a file, and its length.
-fn list(file: &[u8], text: &mut [u8; LISTING_ROOM]) -> usize
-    ensures whole { λ r. ⌜ take r (now (text .exit)) ≡ listing (now (file .entry)) ⌝ }
-    ensures within { λ r. ⌜ r ≤ length (now (text .exit)) ⌝ }
-{
-    listing::write_listing(file, text)
-}
+ghost use lib.ListN.{length};
 
 // What reading gives: how many bytes there are, and whether that is all of the input that fits.
 struct Input {
@@ -60,7 +51,7 @@ fn main() {
     }
     let length = input.length;
     let mut text = [0u8; LISTING_ROOM];
-    let end = list(&file[..length], &mut text);
+    let end = write_whole_listing(&file[..length], &mut text);
     if !io::write_all(STDOUT_FILENO, &text[..end]) {
         io::write_all(STDERR_FILENO, b"list: standard output cannot be written\n");
     }

@@ -1,6 +1,6 @@
 // The listing of a spool as text (rules, section 9), written into a lent buffer. It promises every byte
 // of the listing for any file; it asks nothing of a caller. A buffer that is too small gets as much of
-// the text as it has room for.
+// the text as it has room for; one of LISTING_ROOM bytes gets all of it.
 use frames::step_from;
 use records::FRAME_LIMIT;
 use records::StridedRecord;
@@ -145,7 +145,7 @@ fn put_lines(file: &[u8], count: usize, out: &mut [u8], at: usize) -> usize
 }
 
 // Writes the listing of a file into the buffer, from its start, and gives the length of the text. What does
-// not fit is left out; in LISTING_ROOM bytes every listing fits.
+// not fit is left out.
 pub fn write_listing(file: &[u8], out: &mut [u8]) -> usize
     ensures { λ r. ⌜ record { bytes = now (out .exit); at = r } ≡ putText (record { bytes = now (out .entry); at = 0 }) (listing (now (file .entry))) ⌝ }
     ensures within { λ r. ⌜ r ≤ length (now (out .exit)) ⌝ }
@@ -165,4 +165,14 @@ pub fn write_listing(file: &[u8], out: &mut [u8]) -> usize
             put_lines(file, contents.count as usize, out, at)
         }
     }
+}
+
+// The same in a buffer that every listing fits in.
+pub fn write_whole_listing(file: &[u8], text: &mut [u8; LISTING_ROOM]) -> usize
+    ensures whole { λ r. ⌜ take r (now (text .exit)) ≡ listing (now (file .entry)) ⌝ }
+    ensures buffer { λ r. ⌜ record { bytes = now (text .exit); at = r } ≡ putText (record { bytes = now (text .entry); at = 0 }) (listing (now (file .entry))) ⌝ }
+    ensures within { λ r. ⌜ r ≤ length (now (text .exit)) ⌝ }
+    ensures room { λ _. ⌜ length (now (text .entry)) ≡ listingRoom ⌝ }
+{
+    write_listing(file, text)
 }

@@ -24,17 +24,17 @@ returns c = search needs
 array-share-prefix-file : tie.Need-array-share-prefix-file
 array-share-prefix-file c = search needs
 
-slice-aggregate-list : tie.Need-slice-aggregate-list
-slice-aggregate-list c = sym (length-take-le _ _ (c .before .before .before .before .read-input .ensures))
+slice-aggregate-write-whole-listing : tie.Need-slice-aggregate-write-whole-listing
+slice-aggregate-write-whole-listing c = sym (length-take-le _ _ (c .before .before .before .before .read-input .ensures))
 
-list-requires : tie.Need-list-requires
-list-requires c κs = search needs
+write-whole-listing-requires : tie.Need-write-whole-listing-requires
+write-whole-listing-requires c κs = search needs
 
 array-share-prefix-text : tie.Need-array-share-prefix-text
 array-share-prefix-text c = search needs
 
 slice-aggregate-write-all-2 : tie.Need-slice-aggregate-write-all-2
-slice-aggregate-write-all-2 c = sym (length-take-le _ _ (c .before .list .ensures .1))
+slice-aggregate-write-all-2 c = sym (length-take-le _ _ (c .before .write-whole-listing .ensures .1 .1 .0))
 
 write-all-requires-2 : tie.Need-write-all-requires-2
 write-all-requires-2 c κs = search needs
@@ -61,8 +61,8 @@ main-spec =
     write-all-requires
     returns
     array-share-prefix-file
-    slice-aggregate-list
-    list-requires
+    slice-aggregate-write-whole-listing
+    write-whole-listing-requires
     array-share-prefix-text
     slice-aggregate-write-all-2
     write-all-requires-2

@@ -351,6 +351,7 @@ fn overlapping(layout: Layout, count: usize, random: &mut Random) -> Vec<u8> {
 
 /// Spools of no frame, of the most and of one more.
 pub fn fewest_and_most() -> u64 {
+    assert_eq!(kiosk::FRAME_LIMIT, FRAME_LIMIT);
     let plain = Layout::Plain.write_header(0, 7, 12);
     let strided = Layout::Strided.write_header(0, 7, 16);
     assert_eq!(kiosk::relayout(&plain), Ok(strided.clone()));

@@ -73,8 +73,9 @@ has a stride, the bytes from one row to the next, which may leave gaps between
 rows. Gaps are left out of what is converted, and a byte of a frame that is named
 in an error is counted without them.
 
-A spool has at most 96 frames. They count from 0. The exit status is 0, 1 where something is refused or
-cannot be read or written, and 2 for a wrong command line.
+A spool has at most 96 frames, which count from 0. The exit status is 0, 1 where
+something is refused or cannot be read or written, and 2 for a wrong command
+line.
 ";
 
 /// The greatest length that a spool's header can say.

@@ -167,7 +167,7 @@ pub fn write_listing(file: &[u8], out: &mut [u8]) -> usize
     }
 }
 
-// The same in a buffer that every listing fits in.
+// The same in a buffer that every listing fits in. The clause `room` holds the constant to the definition.
 pub fn write_whole_listing(file: &[u8], text: &mut [u8; LISTING_ROOM]) -> usize
     ensures whole { λ r. ⌜ take r (now (text .exit)) ≡ listing (now (file .entry)) ⌝ }
     ensures buffer { λ r. ⌜ record { bytes = now (text .exit); at = r } ≡ putText (record { bytes = now (text .entry); at = 0 }) (listing (now (file .entry))) ⌝ }

@@ -7,3 +7,4 @@ pub mod Bits
 pub mod Shares
 pub mod Ranks
 pub mod Counting
+pub mod Threes

@@ -7,6 +7,7 @@ use mathlib.Core.List.{List, [], _∷_}
 use native.Mathlib.Omega.{arith}
 use lib.ListN.{length, getD, List·getD-eq-default}
 use Rattle.numbers.specs.Bytes.{littleEndian}
+use Rattle.numbers.proofs.Threes.{length-threes, three-at}
 use Rattle.samples.specs.Samples.{sampleCount, pixelSize, samplesOf, twoByTwo, pixel, noPixel, pixelsOf}
 
 pub length-two : (bytes : List ℕ) → length (twoByTwo bytes) ≡ length bytes / 2
@@ -22,10 +23,7 @@ pub behind : (wide : Bool) (bytes : List ℕ) (k : ℕ) → sampleCount wide (le
 behind wide bytes k h = List·getD-eq-default (samplesOf wide bytes) 0 (rw (length-samples wide bytes) h)
 
 pub length-pixels : (xs : List ℕ) → length (pixelsOf xs) ≡ length xs / 3
-length-pixels [] = refl
-length-pixels (a ∷ []) = refl
-length-pixels (a ∷ b ∷ []) = refl
-length-pixels (a ∷ b ∷ c ∷ rest) = omega (arith, length-pixels rest)
+length-pixels xs = length-threes pixel xs
 
 pub two-at : (bytes : List ℕ) (k : ℕ) → 2 * k + 1 < length bytes
     → getD (twoByTwo bytes) k 0 ≡ littleEndian (getD bytes (2 * k) 0 ∷ getD bytes (2 * k + 1) 0 ∷ [])
@@ -49,12 +47,4 @@ pixel-held false bytes i h = omega arith
 pub pixel-at :
     (xs : List ℕ) (j : ℕ) → 3 * j + 2 < length xs
     → getD (pixelsOf xs) j noPixel ≡ pixel (getD xs (3 * j) 0) (getD xs (3 * j + 1) 0) (getD xs (3 * j + 2) 0)
-pixel-at [] j h = absurd (omega arith)
-pixel-at (a ∷ []) j h = absurd (omega arith)
-pixel-at (a ∷ b ∷ []) j h = absurd (omega arith)
-pixel-at (a ∷ b ∷ c ∷ rest) zero h = refl
-pixel-at (a ∷ b ∷ c ∷ rest) (suc j) h =
-    let e : 3 * suc j ≡ suc (suc (suc (3 * j))) = omega arith in
-    let f : 3 * suc j + 1 ≡ suc (suc (suc (3 * j + 1))) = omega arith in
-    let g : 3 * suc j + 2 ≡ suc (suc (suc (3 * j + 2))) = omega arith in
-    rw (g, f, e) (pixel-at rest j (omega arith))
+pixel-at xs j h = three-at pixel xs j noPixel h

@@ -4,6 +4,7 @@ use Prim.Native.Nat.{ℕ, _*_, _/_}
 use mathlib.Core.Bool.{Bool, true, false, not}
 use mathlib.Core.List.{List, [], _∷_, _++_}
 use lib.Dec.{eqb}
+use Rattle.numbers.specs.Threes.{threes}
 use Rattle.numbers.specs.Bytes.{littleEndian, lowBytes}
 use Rattle.samples.specs.declared.Pixel.{Pixel}
 
@@ -57,10 +58,7 @@ abbrev pub noPixel : Pixel
 noPixel = pixel 0 0 0
 
 abbrev pub pixelsOf : List ℕ → List Pixel
-pixelsOf [] = []
-pixelsOf (a ∷ []) = []
-pixelsOf (a ∷ b ∷ []) = []
-pixelsOf (a ∷ b ∷ c ∷ rest) = pixel a b c ∷ pixelsOf rest
+pixelsOf xs = threes pixel xs
 
 abbrev pub samplesIn : List Pixel → List ℕ
 samplesIn [] = []

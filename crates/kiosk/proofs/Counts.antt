@@ -31,6 +31,8 @@ use Rattle.spool.specs.Find.{recordAt, frameFault}
 use Rattle.spool.specs.Rows.{rowExtent}
 use Rattle.layout.specs.LayOut.{lengthLimit, totalLength, roomSays, layoutSays, recordsSay}
 use Rattle.relayout.specs.Relayout.{target as carriedTo, recordsOf, framesSay, relayoutSays}
+use Rattle.printer.specs.declared.Arrival.{Arrival}
+use Rattle.printer.specs.Arrivals.{arrivalFault, arrivalsSay, arrivals, restFault, endSays, simulationSays}
 use Rattle.kiosk.specs.Interface.{Countable}
 
 -- A refusal is countable, whatever it is.
@@ -110,3 +112,14 @@ unfolding relayoutSays
 relayout-counts file room =
     let says = roomSays (totalLength (carriedTo file) (recordsOf file)) room in
     or-holds Countable (openFault file) (framesSay file says (headerOf file .count) 0) (λ number. tt) (frames-say file says (totals (totalLength (carriedTo file) (recordsOf file)) room) (headerOf file .count) 0)
+
+-- The turns of a printer.
+module _ (done : Said) (h : Countable done) where
+  arrivals-say : (i before : ℕ) (list : List Arrival) → Countable (arrivalsSay done i before list)
+  unfolding arrivalsSay
+  arrivals-say i before [] = h
+  arrivals-say i before (a ∷ list) = decided (arrivalFault i before a) i _ (arrivals-say (i + 1) (a .turn) list)
+
+pub printer-counts : (numbers : List ℕ) (turns : ℕ) → turns < 2 ^ 63 → Countable (simulationSays numbers turns)
+unfolding simulationSays
+printer-counts numbers turns h = arrivals-say (endSays numbers turns) (decided (restFault (length numbers)) _ (accepted turns) h) 0 0 (arrivals numbers)

@@ -9,6 +9,7 @@ use listing::LISTING_ROOM;
 use listing::write_whole_listing;
 use picture::Conversion;
 use picture::convert;
+use printer::simulate;
 use records::FrameRecord;
 use records::RECORD_SIZE;
 use records::STRIDED_RECORD_SIZE;
@@ -44,6 +45,8 @@ ghost use Rattle.linear.specs.Operations.{codesToLightSays, codesToLight, light
 ghost use Rattle.tint.specs.Tints.{channels, tintPixel};
 ghost use Rattle.stickers.specs.Choices.{choiceOf};
 ghost use Rattle.stickers.specs.Stickers.{requestSays, pictureOf, stickers};
+ghost use Rattle.printer.specs.Arrivals.{arrivals, simulationSays};
+ghost use Rattle.printer.specs.Turns.{turnBytes};
 ghost use Rattle.spool.specs.Open.{openSays};
 ghost use Rattle.spool.specs.Find.{findSaid, findSays};
 ghost use Rattle.frames.specs.Walk.{nextNumber};
@@ -308,6 +311,17 @@ pub extern "C" fn kiosk_stickers(
             refused(refusal)
         }
     }
+}
+
+// ---- a shared printer
+
+// As many turns as there are bytes, each with the kiosk that is served: how many.
+#[no_mangle]
+pub extern "C" fn kiosk_printer(numbers: &[u32], bytes: &mut [u8], place: &mut usize) -> i64
+    ensures { λ r. ⌜ Gives (simulationSays (now (numbers .entry)) (length (now (bytes .entry)))) (turnBytes (arrivals (now (numbers .entry))) (length (now (bytes .entry)))) r (now (bytes .entry)) (now (bytes .exit)) (now (place .entry)) (now (place .exit)) ⌝ }
+{
+    let answer = simulate(numbers, bytes);
+    answered(answer, place)
 }
 
 // ---- the round trip

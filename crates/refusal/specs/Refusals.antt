@@ -5,7 +5,7 @@ use Rattle.refusal.specs.declared.Refusal.{Refusal}
 use Rattle.refusal.specs.declared.Refusal.the-variants.{TooShort, WrongFileLength, TooManyFrames, TableOutside, NoSuchFrame}
 use Rattle.refusal.specs.declared.Refusal.the-variants.{UnknownKind, WrongSize, PixelsOutside, DepthNotOffered, NotWholeSamples}
 use Rattle.refusal.specs.declared.Refusal.the-variants.{WrongDestinationLength, SampleTooGreat, ChromaZero, TotalTooLong, InputTooLong}
-use Rattle.refusal.specs.declared.Refusal.the-variants.{NotWholePixels, NotFinite, NoBudget, TooManyPixels, WrongRecordSize, WrongStride}
+use Rattle.refusal.specs.declared.Refusal.the-variants.{NotWholePixels, NotFinite, NoBudget, TooManyPixels, WrongRecordSize, WrongStride, WrongArrival}
 
 abbrev pub numberOf : Refusal → ℕ
 numberOf TooShort = 1
@@ -29,3 +29,4 @@ numberOf NoBudget = 18
 numberOf TooManyPixels = 19
 numberOf WrongRecordSize = 20
 numberOf WrongStride = 21
+numberOf WrongArrival = 22

@@ -48,6 +48,8 @@ pub enum Refusal {
     WrongRecordSize,
     // 21: a stride below a row's own bytes, or gaps between rows where none are taken.
     WrongStride,
+    // 22: an arrival at the printer that breaks a limit, or is one too many.
+    WrongArrival,
 }
 
 // The number of a refusal.
@@ -76,6 +78,7 @@ pub fn number(refusal: Refusal) -> u8
         Refusal::TooManyPixels => 19,
         Refusal::WrongRecordSize => 20,
         Refusal::WrongStride => 21,
+        Refusal::WrongArrival => 22,
     }
 }
 

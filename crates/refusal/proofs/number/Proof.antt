@@ -69,10 +69,14 @@ returns-20 c = sym (ap numberOf (c .enum-told20 .given .1))
 returns-21 : tie.Need-returns-21
 returns-21 c = sym (ap numberOf (c .enum-told21 .given .1))
 
+returns-22 : tie.Need-returns-22
+returns-22 c = sym (ap numberOf (c .enum-told22 .given .1))
+
 pub number-spec : {M : Type 1} → statement M
 number-spec =
     tie.close
     (tie.spec
+    (λ c. search needs)
     (λ c. search needs)
     (λ c. search needs)
     (λ c. search needs)
@@ -114,4 +118,5 @@ number-spec =
     returns-18
     returns-19
     returns-20
-    returns-21)
+    returns-21
+    returns-22)

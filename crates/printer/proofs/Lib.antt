@@ -1,0 +1,5 @@
+pub mod Judging
+pub mod Arriving
+pub mod Rounds
+pub mod Fairness
+pub mod Running

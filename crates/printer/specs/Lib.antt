@@ -1,0 +1,4 @@
+pub mod Arrivals
+pub mod Turns
+pub mod Fairness
+pub mod HowRun

@@ -1,5 +1,6 @@
 /*
- * kiosk.h: colour pictures, tints, stickers and spool files for photo kiosks, from the proved library.
+ * kiosk.h: colour pictures, tints, stickers, spool files and a printer's turns for photo kiosks, from the proved
+ * library.
  *
  * Link with libkiosk.a, which `rt staticlib kiosk` writes to target/staticlib/. x86-64 Linux only.
  * Rules are cited by their numbers in docs/RULES.md.
@@ -9,8 +10,8 @@
  * kiosk_both_runs make several conversions, each accepted or refused by itself: a refused one
  * leaves its own destination as it was, and a later one may still be accepted, and then writes.
  *
- * Buffers are a pointer and a length: bytes for uint8_t, numbers for int32_t, records for struct
- * kiosk_record. Any length may be given: a destination that is longer or shorter than needed is
+ * Buffers are a pointer and a length: bytes for uint8_t, numbers for int32_t and uint32_t, records for
+ * struct kiosk_record. Any length may be given: a destination that is longer or shorter than needed is
  * refused with 11. A buffer of length 0 is neither read nor written.
  *
  * `place` and `places` are written by the refusals that have a place, and otherwise keep what they
@@ -64,8 +65,10 @@ enum kiosk_refusal {
     KIOSK_TOO_MANY_PIXELS = 19,          /* a picture of more than 65,536 pixels for stickers */
     KIOSK_WRONG_RECORD_SIZE = 20,        /* a strided spool whose header has another number than 20 for the size of
                                             its records */
-    KIOSK_WRONG_STRIDE = 21              /* a stride below a row's own bytes; for kiosk_relayout also gaps between
+    KIOSK_WRONG_STRIDE = 21,             /* a stride below a row's own bytes; for kiosk_relayout also gaps between
                                             rows, which a plain spool cannot have */
+    KIOSK_WRONG_ARRIVAL = 22             /* an arrival at the printer that breaks a limit, or is one too many; place: its
+                                            number from 0 */
 };
 
 /* What a frame's pixels are (rule 7.3). */
@@ -200,6 +203,28 @@ int64_t kiosk_tint_light(double red, double green, double blue, uint16_t pixel[3
  * place is src_len plus its number from 0 to 47, with 18 or 19, in this order. */
 int64_t kiosk_stickers(const uint8_t *src, size_t src_len, const uint16_t tints[KIOSK_TINT_CODES], size_t budget,
                        uint8_t *dst, size_t dst_len, uint8_t four[4], uint32_t sums[2], size_t *place);
+
+/* ---- A printer that kiosks share (rule 14), played turn by turn: in each turn prints arrive, and then the printer makes
+ * one print, for the next kiosk in turn that has one waiting. ---- */
+
+/* The kiosks at the printer, which count from 0, and what is written for a turn without a print. */
+#define KIOSK_PRINTER_KIOSKS 8
+#define KIOSK_PRINTER_IDLE 255
+
+/* The limits of arrivals: how many there are at most, which turn each comes before, and the most prints of one. */
+#define KIOSK_ARRIVAL_LIMIT 1000
+#define KIOSK_TURN_LIMIT 100000
+#define KIOSK_PRINT_LIMIT 999
+
+/* Plays served_len turns, from turn 0 on, and gives their number. An arrival is three numbers, a turn, a kiosk and how
+ * many prints come for it then, and arrivals_len counts numbers. In each turn all arrivals of that turn come first. Then
+ * one print is made, for the first kiosk with prints waiting, going round from the one behind the last kiosk served; as
+ * long as none has been served, from kiosk 0. served[t] gets the kiosk of turn t, or KIOSK_PRINTER_IDLE if no prints
+ * waited. A kiosk with prints waiting is served within KIOSK_PRINTER_KIOSKS turns, if so many are played.
+ * Refuses with 22 at the first arrival whose kiosk is not one of the printer's, whose prints are none or too many, whose
+ * turn is too late or before that of the arrival in front of it, that lacks one of its three numbers, or that is beyond
+ * KIOSK_ARRIVAL_LIMIT. Arrivals at turns that are not played are looked at too. */
+int64_t kiosk_printer(const uint32_t *arrivals, size_t arrivals_len, uint8_t *served, size_t served_len, size_t *place);
 
 /* ---- Spool files (rule 7), of two layouts, told apart by the first two bytes. Where these are 65,535 the spool is
  * strided: its header has 16 bytes, its records have 20, and a record's stride leaves gaps between the rows where it

@@ -14,7 +14,8 @@ enum {
     CHROMA_ZERO = -13,
     NOT_WHOLE_PIXELS = -16,
     NO_BUDGET = -18,
-    TOO_MANY_PIXELS = -19
+    TOO_MANY_PIXELS = -19,
+    WRONG_ARRIVAL = -22
 };
 
 static int offered(uint32_t depth)
@@ -679,4 +680,57 @@ int64_t obvious_stickers(const uint8_t *src, size_t src_len, const uint16_t tint
                          uint8_t *dst, size_t dst_len, uint8_t four[4], uint32_t sums[2], size_t *place)
 {
     return stickers_by(add_pixels, src, src_len, tints, budget, dst, dst_len, four, sums, place);
+}
+
+/* ---- The printer that kiosks share ---- */
+
+enum { KIOSKS = 8, IDLE = 255, MOST_ARRIVALS = 1000, TURN_LIMIT = 100000, MOST_PRINTS = 999 };
+
+/* The first arrival at fault: each is a turn, a kiosk and prints, and the last may lack some of them. */
+static int64_t check_arrivals(const uint32_t *arrivals, size_t arrivals_len, size_t *place)
+{
+    uint32_t before = 0;
+    for (size_t k = 0; 3 * k < arrivals_len; k++) {
+        const uint32_t *a = arrivals + 3 * k;
+        if (k == MOST_ARRIVALS || arrivals_len - 3 * k < 3 || a[0] < before || a[0] >= TURN_LIMIT
+            || a[1] >= KIOSKS || a[2] == 0 || a[2] > MOST_PRINTS) {
+            *place = k;
+            return WRONG_ARRIVAL;
+        }
+        before = a[0];
+    }
+    return 0;
+}
+
+/* The first kiosk with prints waiting, going round from this one; KIOSKS if there is none. */
+static uint32_t next_waiting(const uint32_t waiting[KIOSKS], uint32_t from)
+{
+    for (uint32_t k = 0; k < KIOSKS; k++) {
+        uint32_t kiosk = (from + k) % KIOSKS;
+        if (waiting[kiosk] > 0)
+            return kiosk;
+    }
+    return KIOSKS;
+}
+
+int64_t plain_printer(const uint32_t *arrivals, size_t arrivals_len, uint8_t *served, size_t served_len, size_t *place)
+{
+    int64_t fault = check_arrivals(arrivals, arrivals_len, place);
+    if (fault < 0)
+        return fault;
+    uint32_t waiting[KIOSKS] = {0}, from = 0;
+    size_t next = 0;
+    for (size_t turn = 0; turn < served_len; turn++) {
+        for (; next < arrivals_len && arrivals[next] == turn; next += 3)
+            waiting[arrivals[next + 1]] += arrivals[next + 2];
+        uint32_t kiosk = next_waiting(waiting, from);
+        if (kiosk == KIOSKS) {
+            served[turn] = IDLE;
+            continue;
+        }
+        served[turn] = (uint8_t)kiosk;
+        waiting[kiosk]--;
+        from = (kiosk + 1) % KIOSKS;
+    }
+    return (int64_t)served_len;
 }

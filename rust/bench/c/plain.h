@@ -40,6 +40,9 @@ int64_t plain_stickers(const uint8_t *src, size_t src_len, const uint16_t tints[
 int64_t obvious_stickers(const uint8_t *src, size_t src_len, const uint16_t tints[48], size_t budget,
                          uint8_t *dst, size_t dst_len, uint8_t four[4], uint32_t sums[2], size_t *place);
 
+/* The printer that kiosks share: the answer is the number of turns, and `place` the arrival at fault. */
+int64_t plain_printer(const uint32_t *arrivals, size_t arrivals_len, uint8_t *served, size_t served_len, size_t *place);
+
 /* The light of each 12-bit level from 0 to 2,560, and the least light of each level at 10 bits (640) and 12 (2,560). */
 void plain_set_tables(const uint32_t *light, const uint32_t *ten, const uint32_t *twelve);
 

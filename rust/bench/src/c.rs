@@ -3,7 +3,7 @@
 
 #![allow(unsafe_code)]
 
-use kiosk::{Conversion, Tint, TINT_CODES};
+use kiosk::{Arrival, Conversion, Tint, TINT_CODES};
 
 /// What a version gives: its answer, and the clipped pixels, which only a conversion to sRGB counts.
 #[derive(Clone, Copy, Debug, PartialEq, Eq)]
@@ -192,6 +192,13 @@ extern "C" {
         dst: *mut u8,
         dst_len: usize,
     ) -> i64;
+    fn plain_printer(
+        arrivals: *const u32,
+        arrivals_len: usize,
+        served: *mut u8,
+        served_len: usize,
+        place: *mut usize,
+    ) -> i64;
 }
 
 /// Gives plain C its tables: the light of each 12-bit level from 0 to 2,560, and the least light of each level at 10 and
@@ -221,4 +228,14 @@ pub fn tint(tint: Tint, pixel: &mut [u16; 3]) -> i64 {
             Tint::Light([red, green, blue]) => plain_tint_light(red, green, blue, p, &mut place),
         }
     }
+}
+
+/// A printer's turns in plain C: the answer, and the place of an arrival at fault.
+pub fn printer(arrivals: &[Arrival], served: &mut [u8]) -> (i64, usize) {
+    let (a, n) = (arrivals.as_ptr().cast(), 3 * arrivals.len());
+    let (d, m, mut place) = (served.as_mut_ptr(), served.len(), 0);
+    // SAFETY: the pointers and lengths are those of two slices that do not overlap, and of a local; an arrival is three
+    // numbers.
+    let answer = unsafe { plain_printer(a, n, d, m, &mut place) };
+    (answer, place)
 }

@@ -1,12 +1,13 @@
 //! Benchmarks: nanoseconds a pixel of each operation, its checks included, beside plain C, C by hand for SSE2, and
 //! memcpy. Run with `cargo run --release -p bench`, and with ` -- 20000` behind it for that size alone.
-//! ` -- before` times the conversions by an earlier library too, whose archive `KIOSK_BEFORE` names, and ` -- stickers`
-//! times stickers alone.
+//! ` -- before` times the conversions by an earlier library too, whose archive `KIOSK_BEFORE` names. ` -- stickers` times
+//! stickers alone, and ` -- printer` a printer's turns.
 
 #![deny(unsafe_code)]
 
 mod buffer;
 mod c;
+mod printer;
 mod stickers;
 
 use buffer::Buffer;
@@ -697,11 +698,15 @@ fn main() {
     if words.next_if(|word| word == "stickers").is_some() {
         return stickers::compare();
     }
+    if words.next_if(|word| word == "printer").is_some() {
+        return printer::compare();
+    }
     let sizes = sizes(words, &SIZES);
     compare(&operations, &sizes);
     if sizes == SIZES {
         show_growth(&operations);
         stickers::compare();
+        printer::compare();
     }
 }
 

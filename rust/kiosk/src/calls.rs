@@ -3,7 +3,7 @@
 
 #![allow(unsafe_code)]
 
-use crate::{Conversion, Record, TINT_CODES};
+use crate::{Arrival, Conversion, Record, TINT_CODES};
 
 mod c {
     use super::StridedRecord;
@@ -131,6 +131,13 @@ mod c {
             dst_len: usize,
             four: *mut [u8; 4],
             sums: *mut [u32; 2],
+            place: *mut usize,
+        ) -> i64;
+        pub fn kiosk_printer(
+            arrivals: *const u32,
+            arrivals_len: usize,
+            served: *mut u8,
+            served_len: usize,
             place: *mut usize,
         ) -> i64;
         pub fn kiosk_open(file: *const u8, file_len: usize, shop: *mut u16, table: *mut u32)
@@ -346,6 +353,14 @@ pub fn stickers(
         c::kiosk_stickers(s, n, tints, budget, d, m, &mut four, &mut sums, place)
     });
     (given, four, sums)
+}
+
+/// What a call of the printer gives.
+pub fn printer(arrivals: &[Arrival], served: &mut [u8]) -> Given {
+    let (a, n) = (arrivals.as_ptr().cast(), 3 * arrivals.len());
+    let (d, m) = (served.as_mut_ptr(), served.len());
+    // SAFETY: the pointers and lengths are those of two slices that do not overlap; an arrival is three numbers.
+    placed(|place| unsafe { c::kiosk_printer(a, n, d, m, place) })
 }
 
 /// The frame count or a refusal, the shop and the table offset.

@@ -1,6 +1,6 @@
-//! Colour pictures, tints, stickers and spool files for photo kiosks: a safe wrapper of the proved library. Buffers
-//! are slices, an answer is a `Result`, and a refused conversion leaves its destination as it was. Numbers
-//! of rules are those of docs/RULES.md.
+//! Colour pictures, tints, stickers, spool files and a printer's turns for photo kiosks: a safe wrapper of the proved
+//! library. Buffers are slices, an answer is a `Result`, and a refused conversion leaves its destination as it was.
+//! Numbers of rules are those of docs/RULES.md.
 
 #![deny(unsafe_code)]
 
@@ -197,6 +197,42 @@ pub fn stickers(
         looked,
         least,
     })
+}
+
+/// Prints that come for a kiosk at the start of a turn (rule 14.1). A turn, a kiosk and a number of prints beyond the
+/// limits may be asked for, and are refused.
+#[repr(C)]
+#[derive(Clone, Copy, Debug, PartialEq, Eq)]
+pub struct Arrival {
+    pub turn: u32,
+    pub kiosk: u32,
+    pub prints: u32,
+}
+
+// The library takes an arrival as three numbers.
+const _: () = assert!(size_of::<Arrival>() == 3 * size_of::<u32>());
+
+/// The kiosks at a printer, which count from 0: the header's KIOSK_PRINTER_KIOSKS.
+pub const KIOSKS: usize = 8;
+
+/// What [`printer`] writes for a turn without a print: the header's KIOSK_PRINTER_IDLE.
+pub const IDLE: u8 = 255;
+
+/// The most arrivals of a list: the header's KIOSK_ARRIVAL_LIMIT.
+pub const ARRIVAL_LIMIT: usize = 1_000;
+
+/// The turn that each arrival comes before: the header's KIOSK_TURN_LIMIT.
+pub const TURN_LIMIT: u32 = 100_000;
+
+/// The most prints of an arrival: the header's KIOSK_PRINT_LIMIT.
+pub const PRINT_LIMIT: u32 = 999;
+
+/// Plays a printer that [`KIOSKS`] kiosks share, as many turns as `served` has bytes, and gives their number (rule 14).
+/// In each turn its arrivals come first; then one print is made, for the first kiosk with prints waiting, going round
+/// from the one behind the last kiosk served. The turn's byte gets that kiosk, or [`IDLE`] if none had prints waiting. An
+/// arrival that breaks a limit is refused with its number as place.
+pub fn printer(arrivals: &[Arrival], served: &mut [u8]) -> Result<usize, Refusal> {
+    counted(calls::printer(arrivals, served))
 }
 
 /// A frame's record, with the bytes that it has in a plain spool; in a strided one the stride follows them.

@@ -27,11 +27,12 @@ pub enum Fault {
     TooManyPixels,
     WrongRecordSize,
     WrongStride,
+    WrongArrival,
 }
 
 impl Fault {
     /// All faults, each at its number less one.
-    pub const ALL: [Fault; 21] = [
+    pub const ALL: [Fault; 22] = [
         Fault::TooShort,
         Fault::WrongFileLength,
         Fault::TooManyFrames,
@@ -53,6 +54,7 @@ impl Fault {
         Fault::TooManyPixels,
         Fault::WrongRecordSize,
         Fault::WrongStride,
+        Fault::WrongArrival,
     ];
 
     /// The number of the refusal.
@@ -88,6 +90,9 @@ impl Fault {
             Fault::TooManyPixels => "a picture for stickers has at most 65,536 pixels",
             Fault::WrongRecordSize => "the header has another size of records than 20 bytes",
             Fault::WrongStride => "the stride is below a row's own bytes",
+            Fault::WrongArrival => {
+                "at most 1,000 arrivals, of 1 to 999 prints for kiosks 0 to 7, in ascending turns below 100,000"
+            }
         }
     }
 }
@@ -96,7 +101,7 @@ impl Fault {
 #[derive(Clone, Copy, Debug, PartialEq, Eq)]
 pub struct Refusal {
     pub fault: Fault,
-    /// The byte offset of a sample, the number of a record, or that of a tint's channel. For a code of the
+    /// The byte offset of a sample, or the number of a record, of a tint's channel or of an arrival. For a code of the
     /// 16 tints of [`crate::stickers`] it is the picture's length plus the code's number, 0 to 47.
     pub place: Option<usize>,
 }
@@ -126,6 +131,7 @@ impl fmt::Display for Refusal {
             (Some(place), Fault::UnknownKind | Fault::WrongSize | Fault::PixelsOutside) => {
                 write!(f, " (record {place})")
             }
+            (Some(place), Fault::WrongArrival) => write!(f, " (arrival {place})"),
             (Some(place), Fault::NotFinite) => {
                 let name = ["red", "green", "blue"].get(place).unwrap_or(&"unknown");
                 write!(f, " (channel {place}, {name})")
@@ -194,6 +200,11 @@ mod tests {
         assert_eq!(
             words(Fault::WrongRecordSize, None),
             "refusal 20: the header has another size of records than 20 bytes"
+        );
+        assert_eq!(
+            words(Fault::WrongArrival, Some(7)),
+            "refusal 22: at most 1,000 arrivals, of 1 to 999 prints for kiosks 0 to 7, in ascending turns below 100,000 \
+             (arrival 7)"
         );
     }
 

@@ -561,6 +561,155 @@ static void stickers_refused(void)
     CHECK(dst[0] == 5 && dst[65535] == 5 && four[3] == 5 && sums[0] == 655360 && sums[1] == 655360 && place == 77);
 }
 
+/* What a call of the printer may write, each between bytes or numbers that nobody may touch. */
+struct printer_room {
+    uint8_t served[1 + 24 + 1];
+    size_t place[1 + 1 + 1];
+};
+
+static int64_t print_in(struct printer_room *room, const uint32_t *arrivals, size_t arrivals_len, size_t turns)
+{
+    memset(room, 0x5a, sizeof *room);
+    return kiosk_printer(arrivals, arrivals_len, room->served + 1, turns, room->place + 1);
+}
+
+/* Do arrivals give these turns, and is all around them, and the place, as it was? */
+static int prints(const uint32_t *arrivals, size_t arrivals_len, const uint8_t *expected, size_t turns)
+{
+    struct printer_room room, like;
+
+    memset(&like, 0x5a, sizeof like);
+    memcpy(like.served + 1, expected, turns);
+    return print_in(&room, arrivals, arrivals_len, turns) == (int64_t)turns && memcmp(&room, &like, sizeof like) == 0;
+}
+
+/* Are arrivals refused at this place, and is all else as it was, whatever the number of turns? */
+static int printer_refused_at(size_t at, const uint32_t *arrivals, size_t arrivals_len)
+{
+    static const size_t counts[4] = {0, 1, 2, 24};
+    struct printer_room room, like;
+
+    memset(&like, 0x5a, sizeof like);
+    like.place[1] = at;
+    for (size_t k = 0; k < 4; k++)
+        if (print_in(&room, arrivals, arrivals_len, counts[k]) != -KIOSK_WRONG_ARRIVAL
+            || memcmp(&room, &like, sizeof like) != 0)
+            return 0;
+    return 1;
+}
+
+/* In turn 0 kiosk 2 is the first from 0 on, and then 5 the first behind 2. In turn 2 kiosk 0 has come, and is looked at
+ * behind 6 and 7, before 2. In turn 5 kiosk 3 is served, and the idle turn 6 leaves it the last one served: of 3 and 4,
+ * which come together in turn 7, it is 4 that is the next. Turn 23 is not played. */
+static void printer(void)
+{
+    static const uint32_t arrivals[21] = {0, 2, 2, 0, 5, 1, 2, 0, 1, 5, 3, 1, 7, 3, 1, 7, 4, 1, 23, 6, 999};
+    static const uint8_t expected[10] = {
+        2, 5, 0, 2, KIOSK_PRINTER_IDLE, 3, KIOSK_PRINTER_IDLE, 4, 3, KIOSK_PRINTER_IDLE,
+    };
+    static const uint32_t late[6] = {2, 7, 1, 2, 0, 1};
+    uint8_t idle[24];
+
+    for (size_t turns = 0; turns <= sizeof expected; turns++)
+        CHECK(prints(arrivals, 21, expected, turns));
+    memset(idle, KIOSK_PRINTER_IDLE, sizeof idle);
+    CHECK(prints(arrivals, 0, idle, sizeof idle) && prints(arrivals, 0, idle, 0));
+    /* As long as none has been served kiosk 0 is the first, behind idle turns too. */
+    idle[2] = 0;
+    idle[3] = 7;
+    CHECK(prints(late, 6, idle, sizeof idle));
+}
+
+/* All kiosks come in turn 0, the last one first, with two prints each. */
+static void printer_of_all_kiosks(void)
+{
+    uint32_t arrivals[3 * KIOSK_PRINTER_KIOSKS];
+    uint8_t expected[24];
+
+    for (uint32_t k = 0; k < KIOSK_PRINTER_KIOSKS; k++) {
+        arrivals[3 * k] = 0;
+        arrivals[3 * k + 1] = KIOSK_PRINTER_KIOSKS - 1 - k;
+        arrivals[3 * k + 2] = 2;
+    }
+    for (size_t turn = 0; turn < 24; turn++)
+        expected[turn] = (uint8_t)(turn < 16 ? turn % 8 : KIOSK_PRINTER_IDLE);
+    CHECK(prints(arrivals, 3 * KIOSK_PRINTER_KIOSKS, expected, 24));
+    /* Kiosk 7 has more prints than there are turns. It gets no more than its own until the others have no more. */
+    arrivals[2] = KIOSK_PRINT_LIMIT;
+    memset(expected + 16, 7, 8);
+    CHECK(prints(arrivals, 3 * KIOSK_PRINTER_KIOSKS, expected, 24));
+}
+
+/* Does an arrival stand behind those of turns 3 and 7? In turns 0 to 2 none has come yet. */
+static int stands(uint32_t turn, uint32_t kiosk, uint32_t count)
+{
+    static const uint8_t idle[3] = {KIOSK_PRINTER_IDLE, KIOSK_PRINTER_IDLE, KIOSK_PRINTER_IDLE};
+    const uint32_t arrivals[9] = {3, 1, 1, 7, 1, 1, turn, kiosk, count};
+
+    return prints(arrivals, 9, idle, 3) && prints(arrivals, 9, idle, 0);
+}
+
+/* Is it refused there, at its own place? */
+static int is_at_fault(uint32_t turn, uint32_t kiosk, uint32_t count)
+{
+    const uint32_t arrivals[9] = {3, 1, 1, 7, 1, 1, turn, kiosk, count};
+
+    return printer_refused_at(2, arrivals, 9);
+}
+
+static void printer_limits(void)
+{
+    static const uint32_t faults[12] = {5, KIOSK_PRINTER_KIOSKS, 1, 4, 0, 1, 5, 0, 0, 5, 0, 1};
+
+    CHECK(KIOSK_PRINTER_KIOSKS == 8 && KIOSK_PRINTER_IDLE == 255);
+    CHECK(KIOSK_ARRIVAL_LIMIT == 1000 && KIOSK_TURN_LIMIT == 100000 && KIOSK_PRINT_LIMIT == 999);
+    CHECK(stands(7, 0, 1) && stands(KIOSK_TURN_LIMIT - 1, KIOSK_PRINTER_KIOSKS - 1, KIOSK_PRINT_LIMIT));
+    CHECK(is_at_fault(7, KIOSK_PRINTER_KIOSKS, 1) && is_at_fault(7, 256, 1) && is_at_fault(7, UINT32_MAX, 1));
+    CHECK(is_at_fault(7, 0, 0) && is_at_fault(7, 0, KIOSK_PRINT_LIMIT + 1));
+    CHECK(is_at_fault(7, 0, 65537) && is_at_fault(7, 0, UINT32_MAX));
+    CHECK(is_at_fault(KIOSK_TURN_LIMIT, 0, 1) && is_at_fault(UINT32_MAX, 0, 1));
+    /* A turn may not be before the one in front of it, if it is behind the first or not. */
+    CHECK(is_at_fault(6, 0, 1) && is_at_fault(2, 0, 1));
+    /* The first fault decides. */
+    CHECK(printer_refused_at(0, faults, 12) && printer_refused_at(1, faults + 3, 9));
+    CHECK(printer_refused_at(0, faults + 6, 6));
+}
+
+/* An arrival that lacks one number, or two, is at fault at its place, unless one before it is. */
+static void printer_of_parts(void)
+{
+    static const uint32_t arrivals[9] = {0, 1, 1, 0, 1, 1, 0, 1, 1}, faulty[5] = {0, 8, 1, 0, 1};
+    static const uint8_t three[4] = {1, 1, 1, KIOSK_PRINTER_IDLE};
+
+    for (size_t length = 0; length <= 9; length++)
+        if (length % 3 != 0)
+            CHECK(printer_refused_at(length / 3, arrivals, length));
+    CHECK(prints(arrivals, 9, three, 4) && prints(arrivals, 6, three, 2));
+    CHECK(printer_refused_at(0, faulty, 4) && printer_refused_at(0, faulty, 5));
+}
+
+/* As many arrivals as there may be. All beyond them are at fault at the same place, whole or not, sound or not. */
+static void printer_of_most_arrivals(void)
+{
+    static uint32_t arrivals[3 * (KIOSK_ARRIVAL_LIMIT + 2)];
+    const size_t most = 3 * KIOSK_ARRIVAL_LIMIT;
+    uint8_t first[24];
+
+    for (size_t k = 2; k < most + 6; k += 3)
+        arrivals[k] = 1;
+    memset(first, 0, sizeof first);
+    CHECK(prints(arrivals, most, first, sizeof first) && prints(arrivals, most - 3, first, sizeof first));
+    for (size_t more = 1; more <= 6; more++)
+        CHECK(printer_refused_at(KIOSK_ARRIVAL_LIMIT, arrivals, most + more));
+    arrivals[most + 1] = KIOSK_PRINTER_KIOSKS;
+    CHECK(printer_refused_at(KIOSK_ARRIVAL_LIMIT, arrivals, most + 3));
+    CHECK(printer_refused_at(KIOSK_ARRIVAL_LIMIT - 1, arrivals, most - 1));
+    CHECK(printer_refused_at(KIOSK_ARRIVAL_LIMIT - 1, arrivals, most - 2));
+    arrivals[most - 1] = 0;
+    for (size_t more = 0; more <= 6; more++)
+        CHECK(printer_refused_at(KIOSK_ARRIVAL_LIMIT - 1, arrivals, most + more));
+}
+
 static void spools(void)
 {
     struct kiosk_record records[2] = {
@@ -942,6 +1091,11 @@ int main(void)
     stickers();
     stickers_of_many_pixels();
     stickers_refused();
+    printer();
+    printer_of_all_kiosks();
+    printer_limits();
+    printer_of_parts();
+    printer_of_most_arrivals();
     spools();
     spools_of_standard_ycc();
     strided_spools();

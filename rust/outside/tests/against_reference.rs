@@ -11,7 +11,7 @@ use std::time::Instant;
 /// A part of the tests: what it compares, and the function that gives how many.
 type Part = (&'static str, fn() -> u64);
 
-const PARTS: [Part; 39] = [
+const PARTS: [Part; 48] = [
     (
         "samples: every code of every depth",
         parts::pictures::every_sample,
@@ -116,6 +116,39 @@ const PARTS: [Part; 39] = [
     (
         "calls of stickers with several faults",
         parts::stickers::refusals,
+    ),
+    (
+        "printers with every list of one to three small arrivals",
+        parts::printer::every_small_list,
+    ),
+    ("printers with lists of many shapes", parts::printer::shapes),
+    (
+        "printers with a greedy kiosk, and full ones",
+        parts::printer::unfair,
+    ),
+    (
+        "printers whose prints and waits the test counts by itself",
+        parts::printer::promises,
+    ),
+    (
+        "printers of 100,000 turns, and of so many that all prints are made",
+        parts::printer::longest,
+    ),
+    (
+        "calls of the printer: numbers at and beyond each limit, in each place",
+        parts::printer::limits,
+    ),
+    (
+        "calls of the printer: turns that fall, in each place",
+        parts::printer::falling_turns,
+    ),
+    (
+        "calls of the printer: the most arrivals and more, and each at fault",
+        parts::printer::most_arrivals,
+    ),
+    (
+        "calls of the printer with several faults",
+        parts::printer::faults,
     ),
     (
         "spools laid out, found, walked, listed, written in the other layout, damaged and cut",

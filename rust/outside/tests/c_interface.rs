@@ -96,6 +96,25 @@ fn no_function_is_left_out() {
     assert_eq!(declared, called);
 }
 
+/// The wrapper has the header's numbers.
+#[test]
+fn numbers_of_the_header() {
+    let header = include_str!("../../../include/kiosk.h");
+    let numbers: [(&str, usize); 7] = [
+        ("TINT_CODES", kiosk::TINT_CODES),
+        ("PRINTER_KIOSKS", kiosk::KIOSKS),
+        ("PRINTER_IDLE", kiosk::IDLE.into()),
+        ("ARRIVAL_LIMIT", kiosk::ARRIVAL_LIMIT),
+        ("TURN_LIMIT", kiosk::TURN_LIMIT as usize),
+        ("PRINT_LIMIT", kiosk::PRINT_LIMIT as usize),
+        ("FRAME_LIMIT", kiosk::FRAME_LIMIT),
+    ];
+    for (name, number) in numbers {
+        let line = format!("#define KIOSK_{name} {number}");
+        assert!(header.lines().any(|of_it| of_it == line), "{line}");
+    }
+}
+
 #[test]
 fn the_example() {
     for said in run_both("example", "c99") {

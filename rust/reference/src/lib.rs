@@ -7,6 +7,7 @@
 mod big;
 pub mod buffers;
 pub mod light;
+pub mod printer;
 pub mod samples;
 pub mod spool;
 pub mod stickers;

@@ -1,6 +1,7 @@
 pub mod clipped;
 pub mod light;
 pub mod pictures;
+pub mod printer;
 pub mod spools;
 pub mod stickers;
 pub mod strided;

@@ -1,16 +1,25 @@
 //! The kiosk command: lists, checks, converts, compares and previews the frames of a spool file, chooses stickers for
-//! them, writes a spool in the other layout, and converts tints.
+//! them, writes a spool in the other layout, converts tints, and plays the turns of a printer that kiosks share.
 
 #![forbid(unsafe_code)]
 
+mod arrivals;
 mod check;
 mod compare;
+mod drawing;
+mod font;
 mod form;
 mod output;
+mod plot;
 mod png;
+mod printer;
 mod progress;
+mod raster;
 mod stickers;
+mod svg;
+mod text;
 mod tint;
+mod waits;
 
 use form::{Form, Target};
 use kiosk::{Fault, Frame, Record, Refusal};
@@ -31,6 +40,8 @@ usage: kiosk list FILE
                       [--preview FILE.png]
        kiosk relayout FILE --out FILE
        kiosk tint --code R,G,B | --nonlinear R,G,B | --light R,G,B
+       kiosk printer ARRIVALS.csv --turns N [--out FILE]
+                     [--plot FILE.png|FILE.svg]
 
 list      prints a heading and a line for each frame of a spool file, or a line
           with `refused` and a number, and why on standard error. A file of more
@@ -67,6 +78,23 @@ tint      prints a colour as a pixel of 12-bit e-sRGB: three codes from 0 to 409
           Codes of 8-bit sRGB are from 0 to 255. Nonlinear numbers have black at 0
           and white at 1, light has reference white at 1, and both may be any
           finite number: what a code cannot hold is clipped
+printer   plays N turns of a printer that kiosks 0 to 7 share. In each turn
+          prints arrive first; then one is made, for the first kiosk with prints
+          waiting, going round from the one behind the last kiosk served. It
+          prints a line for each kiosk and one for all: the prints that arrived,
+          were made and still wait at the end, the longest and the mean wait of
+          those made, and how long the oldest of those that still wait has
+          waited. The wait of a print is the number of turns from the one in
+          which it arrives to the one in which it is made, 0 if that is the
+          same, or to the last turn if it still waits. The prints of a kiosk are
+          made in the order in which they arrive. --out writes one byte for each
+          turn, the kiosk or 255 for none. --plot draws how long the oldest
+          print of each kiosk has waited at each turn. ARRIVALS.csv has a line
+          for each arrival, with turn, kiosk and prints, and commas between
+          them: at most 1000 arrivals, in turns that ascend or are equal, from 0
+          to 99999, of 1 to 999 prints. The line turn,kiosk,prints may be in
+          front of them; # begins a comment. N is at most 1099000, by which all
+          prints are made
 
 A spool is plain, or strided: then its first two bytes are 65535, and each frame
 has a stride, the bytes from one row to the next, which may leave gaps between
@@ -115,7 +143,7 @@ fn failed(status: u8, why: &str) -> ExitCode {
 }
 
 /// The options, and whether each has a value.
-const OPTIONS: [(&str, bool); 9] = [
+const OPTIONS: [(&str, bool); 11] = [
     ("--to", true),
     ("--out", true),
     ("--raw", false),
@@ -125,6 +153,8 @@ const OPTIONS: [(&str, bool); 9] = [
     ("--tints", true),
     ("--budget", true),
     ("--preview", true),
+    ("--turns", true),
+    ("--plot", true),
 ];
 
 /// A command's words, sorted.
@@ -188,6 +218,20 @@ impl<'a> Words<'a> {
         Ok(asked)
     }
 
+    /// How long a printer is to be played, and where its files go.
+    fn printer(&self) -> Result<printer::Asked<'a>, Failure> {
+        let asked = printer::Asked {
+            turns: turns(self.wanted("--turns")?)?,
+            out: self.options.get("--out").copied().map(Path::new),
+            plot: self.options.get("--plot").copied().map(plot).transpose()?,
+        };
+        let plot = asked.plot.as_ref().map(|plot| plot.path);
+        if plot.is_some() && plot == asked.out {
+            return Err(Failure::usage("--out and --plot name the same file"));
+        }
+        Ok(asked)
+    }
+
     fn target(&self) -> Result<Target, Failure> {
         let name = self.wanted("--to")?;
         let target = name.to_str().and_then(Target::named);
@@ -218,8 +262,8 @@ fn run(words: &[OsString]) -> Result<(), Failure> {
 }
 
 /// The commands, for those that are given the wrong words.
-const COMMANDS: [&str; 8] = [
-    "list", "check", "compare", "preview", "convert", "stickers", "relayout", "tint",
+const COMMANDS: [&str; 9] = [
+    "list", "check", "compare", "preview", "convert", "stickers", "relayout", "tint", "printer",
 ];
 
 fn run_command(command: &OsStr, words: &Words) -> Result<(), Failure> {
@@ -243,6 +287,10 @@ fn run_command(command: &OsStr, words: &Words) -> Result<(), Failure> {
             words.only(&tint::OPTIONS)?;
             let (option, value) = words.tint()?;
             tint(option, value)
+        }
+        (Some("printer"), [file]) => {
+            words.only(&["--turns", "--out", "--plot"])?;
+            printer::run(Path::new(file), words.printer()?)
         }
         (Some(command), _) if COMMANDS.contains(&command) => {
             Err(Failure::usage(format!("{command} wants other words")))
@@ -279,8 +327,8 @@ fn run_for_frame(command: &str, file: &Path, frame: &OsStr, words: &Words) -> Re
     }
 }
 
-/// A whole number, for what is named. One that is too great for the machine is no frame's either, and as a budget it is
-/// more than enough.
+/// A whole number, for what is named. One that is too great for the machine is no frame's either, as a budget it is
+/// more than enough, and so many turns are not played.
 fn number(word: &OsStr, what: &str) -> Result<usize, Failure> {
     match word.to_str() {
         Some(digits) if !digits.is_empty() && digits.bytes().all(|b| b.is_ascii_digit()) => {
@@ -288,6 +336,29 @@ fn number(word: &OsStr, what: &str) -> Result<usize, Failure> {
         }
         _ => Err(Failure::usage(format!("{} is no {what}", word.display()))),
     }
+}
+
+/// A number of turns to play.
+fn turns(word: &OsStr) -> Result<usize, Failure> {
+    let turns = number(word, "number of turns")?;
+    if turns > printer::TURNS_LIMIT {
+        return Err(Failure::usage(format!(
+            "{} turns are more than {}, by which every print is made",
+            word.display(),
+            text::grouped(printer::TURNS_LIMIT)
+        )));
+    }
+    Ok(turns)
+}
+
+/// A plot's file, of a format that its name tells.
+fn plot(file: &OsStr) -> Result<printer::Plot<'_>, Failure> {
+    printer::Plot::named(Path::new(file)).ok_or_else(|| {
+        Failure::usage(format!(
+            "{} does not end in .png or .svg, as a plot does",
+            file.display()
+        ))
+    })
 }
 
 /// A file's bytes; of one with more than `limit` one byte more, which is enough to know that it is longer.

@@ -1,7 +1,8 @@
 //! Stickers for a frame: four of the tints in a text file, and each pixel's tint of the four.
 
 use crate::form::{self, Form};
-use crate::{found, png, print, read, read_within, save, tell_clipped, Failure};
+use crate::text::{self, cut, uncommented};
+use crate::{found, png, print, read, save, tell_clipped, Failure};
 use kiosk::{Conversion, Frame, Refusal, Stickers, CHOICES, TINT_CODES};
 use std::path::Path;
 
@@ -20,7 +21,7 @@ const DEPTH: u32 = 12;
 const TINTS_LIMIT: usize = 65_536;
 
 pub fn run(path: &Path, number: usize, asked: Asked) -> Result<(), Failure> {
-    let text = text_of(asked.tints)?;
+    let text = text::read(asked.tints, TINTS_LIMIT, "tints")?;
     let tints = codes(&text).map_err(|wrong| Failure::about(asked.tints, wrong))?;
     let file = read(path)?;
     let (frame, place) = found(path, &file, number)?;
@@ -46,24 +47,10 @@ pub fn run(path: &Path, number: usize, asked: Asked) -> Result<(), Failure> {
     tell_clipped(&place, &frame.record, clipped)
 }
 
-/// The text of a file of tints.
-fn text_of(path: &Path) -> Result<String, Failure> {
-    let bytes = read_within(path, TINTS_LIMIT)?;
-    if bytes.len() > TINTS_LIMIT {
-        let wrong = format!("longer than {TINTS_LIMIT} bytes, the most that a file of tints has");
-        return Err(Failure::about(path, wrong));
-    }
-    String::from_utf8(bytes).map_err(|error| {
-        let place = error.utf8_error().valid_up_to();
-        Failure::about(path, format!("not a text: byte {place} is not UTF-8"))
-    })
-}
-
 /// The words of a file of tints, each with the number of its line, from 1.
 fn words(text: &str) -> impl Iterator<Item = (usize, &str)> {
     text.lines().enumerate().flat_map(|(k, line)| {
-        let (before, _) = line.split_once('#').unwrap_or((line, ""));
-        before
+        uncommented(line)
             .split(|c: char| c == ',' || c.is_whitespace())
             .filter(|word| !word.is_empty())
             .map(move |word| (k + 1, word))
@@ -87,14 +74,6 @@ fn codes(text: &str) -> Result<[u16; TINT_CODES], String> {
     codes
         .try_into()
         .map_err(|_| format!("{count} numbers, where 16 tints have {TINT_CODES}"))
-}
-
-/// The start of a word, if it is long.
-fn cut(word: &str) -> String {
-    match word.char_indices().nth(20) {
-        Some((end, _)) => format!("{}..", &word[..end]),
-        None => word.into(),
-    }
 }
 
 /// The refusal of a code of the tints, with its line and what it says there.

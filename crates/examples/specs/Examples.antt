@@ -21,6 +21,9 @@ use Rattle.transfer.specs.Level.{codeOfLight}
 use Rattle.tint.specs.declared.Tint.{Tint}
 use Rattle.tint.specs.declared.Tint.the-variants.{Code, Nonlinear, Light}
 use Rattle.tint.specs.Tints.{TintSaid, gives, refusesAt, channels, tintSays}
+use Rattle.refusal.specs.Answers.{Said, accepted, refusedAt}
+use Rattle.printer.specs.Arrivals.{arrivals, simulationSays}
+use Rattle.printer.specs.Turns.{turnBytes}
 use Rattle.stickers.specs.declared.Four.{Four}
 use Rattle.stickers.specs.declared.Choice.{Choice}
 use Rattle.stickers.specs.Choices.{four, tintOf, chosen, choiceOf}
@@ -36,6 +39,8 @@ pub data Example : Type 0 where
   tint : Tint → TintSaid → Example
   choiceFor : List ℕ → List Pixel → ℕ → Choice → Example
   bytesFor : List ℕ → List Pixel → ℕ → List ℕ → Example
+  turnsOf : List ℕ → ℕ → List ℕ → Example
+  simulation : List ℕ → ℕ → Said → Example
 
 -- The code of a level, which may be negative; negsuc k is −(k + 1).
 abbrev pub codeOfLevel : ℕ → ℤ → ℕ
@@ -44,7 +49,7 @@ codeOfLevel n (negsuc k) = offset n - suc k
 
 -- What an example says: Convert of one pixel; a pixel of codes to luma and chroma and back; an sRGB pixel to codes, there and
 -- back, and to sRGB; whether sRGB cannot hold a code; the light of a level; the code of a light; what is said of a tint; the
--- choice for a picture, and its bytes.
+-- choice for a picture, and its bytes; the bytes of a printer's turns, and what is said of them.
 abbrev pub Holds : Example → Type 0
 Holds (convert c p printed) = pixelOf c p ≡ printed
 Holds (thereAndBack n p printed) = toRgb n (toLumaChroma n p) ≡ printed
@@ -55,6 +60,8 @@ Holds (codeOf n light printed) = codeOfLight n light ≡ printed
 Holds (tint t printed) = tintSays t ≡ printed
 Holds (choiceFor tints ps budget printed) = choiceOf tints ps budget ≡ printed
 Holds (bytesFor tints ps budget printed) = map (tintOf tints (chosen tints ps budget)) ps ≡ printed
+Holds (turnsOf numbers turns printed) = turnBytes (arrivals numbers) turns ≡ printed
+Holds (simulation numbers turns printed) = simulationSays numbers turns ≡ printed
 
 -- Rule 10.10: 16 tints that are white but for tints 5 and 9, and perhaps tint 2; and three pixels.
 abbrev pub white : Pixel
@@ -71,6 +78,13 @@ threePixels = pixel 10 0 0 ∷ pixel 0 20 0 ∷ pixel 0 0 0 ∷ []
 
 abbrev pub answer : Four → ℕ → ℕ → ℕ → Choice
 answer f sum looked least = record { four = f; sum = sum; looked = looked; least = least }
+
+-- Rule 10.11: lists of arrivals.
+abbrev pub fourArrivals : List ℕ
+fourArrivals = 0 ∷ 2 ∷ 3 ∷ 1 ∷ 5 ∷ 1 ∷ 1 ∷ 2 ∷ 1 ∷ 6 ∷ 0 ∷ 1 ∷ []
+
+abbrev pub behindFour : List ℕ
+behindFour = 0 ∷ 4 ∷ 1 ∷ 2 ∷ 3 ∷ 1 ∷ 2 ∷ 6 ∷ 1 ∷ []
 
 infixr 40 _&_
 pub data AllHold : List Example → Type 0 where
@@ -192,4 +206,16 @@ examples =
     ∷ bytesFor (tintsWith (pixel 10 0 0)) threePixels 3 (2 ∷ 2 ∷ 2 ∷ [])
     ∷ choiceFor (tintsWith white) [] 7 (answer (four 0 1 2 3) 0 7 0)
     ∷ choiceFor (tintsWith white) [] 1821 (answer (four 0 1 2 3) 0 1820 0)
+    -- Rule 10.11.
+    ∷ turnsOf fourArrivals 9 (2 ∷ 5 ∷ 2 ∷ 2 ∷ 2 ∷ 255 ∷ 0 ∷ 255 ∷ 255 ∷ [])
+    ∷ turnsOf behindFour 4 (4 ∷ 255 ∷ 6 ∷ 3 ∷ [])
+    ∷ simulation fourArrivals 9 (accepted 9)
+    ∷ simulation [] 3 (accepted 3)
+    ∷ simulation (99999 ∷ 7 ∷ 999 ∷ []) 0 (accepted 0)
+    ∷ simulation (100000 ∷ 7 ∷ 999 ∷ []) 0 (refusedAt 22 0)
+    ∷ simulation (0 ∷ 8 ∷ 1 ∷ []) 3 (refusedAt 22 0)
+    ∷ simulation (0 ∷ 0 ∷ 1 ∷ 0 ∷ 0 ∷ 0 ∷ []) 3 (refusedAt 22 1)
+    ∷ simulation (0 ∷ 0 ∷ 1 ∷ 0 ∷ 0 ∷ 1000 ∷ []) 3 (refusedAt 22 1)
+    ∷ simulation (0 ∷ 0 ∷ 1 ∷ 5 ∷ 0 ∷ 1 ∷ 4 ∷ 0 ∷ 1 ∷ []) 3 (refusedAt 22 2)
+    ∷ simulation (0 ∷ 0 ∷ 1 ∷ 5 ∷ 0 ∷ []) 3 (refusedAt 22 1)
     ∷ []

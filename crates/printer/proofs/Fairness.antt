@@ -16,7 +16,7 @@ use Rattle.numbers.specs.Counting.{howMany}
 use Rattle.numbers.proofs.Counting.{count-append}
 use Rattle.printer.specs.declared.Arrival.{Arrival}
 use Rattle.printer.specs.Arrivals.{kioskCount}
-use Rattle.printer.specs.Turns.{came, behind, idle, nextFrom, nextKiosk, Printer, printer, served, afterTurn, newPrinter, printerAt, waitingIn, turnByte, turnBytes}
+use Rattle.printer.specs.Turns.{came, behind, idle, nextFrom, nextKiosk, Printer, printer, afterPrint, afterTurn, newPrinter, printerAt, waitingIn, turnByte, turnBytes}
 use Rattle.printer.specs.Fairness.{arrived, made, waitingAfter, Waits, ServedSoon, Fair}
 use Rattle.printer.specs.HowRun.{Servable}
 use Rattle.printer.proofs.Arriving.{set-here, set-elsewhere}
@@ -80,30 +80,30 @@ module _ (w : List ℕ) (first b : ℕ) where
   abbrev after : Bool → Printer
   after none = cond {A = Printer} none (printer w first) (printer (set w b (getD w b 0 - 1)) (behind b))
 
-  served-length : length (served w first b .waiting) ≡ length w
-  unfolding served
+  served-length : length (afterPrint w first b .waiting) ≡ length w
+  unfolding afterPrint
   served-length = by (eqb b idle)
     where
       by : (none : Bool) → length (after none .waiting) ≡ length w
       by true = refl
       by false = length-set w b (getD w b 0 - 1)
 
-  pub served-first : first < kioskCount → served w first b .first < kioskCount
-  unfolding served
+  pub served-first : first < kioskCount → afterPrint w first b .first < kioskCount
+  unfolding afterPrint
   served-first h = by (eqb b idle)
     where
       by : (none : Bool) → after none .first < kioskCount
       by true = h
       by false = omega arith
 
-  pub served-kiosk : b < kioskCount → served w first b ≡ after false
-  unfolding served
+  pub served-kiosk : b < kioskCount → afterPrint w first b ≡ after false
+  unfolding afterPrint
   served-kiosk h = simp (ne-eqb b idle (λ z. omega arith))
 
   -- It is one print less for its kiosk, and none for the others.
   one-less : (k : ℕ) → k < kioskCount → length w ≡ kioskCount → Servable w b
-      → getD (served w first b .waiting) k 0 + cond (eqb k b) 1 0 ≡ getD w k 0
-  unfolding served
+      → getD (afterPrint w first b .waiting) k 0 + cond (eqb k b) 1 0 ≡ getD w k 0
+  unfolding afterPrint
   one-less k h l s = by (eqb b idle) refl
     where
       took : (this : Bool) → eqb k b ≡ this → (b ≡ idle → ⊥) → getD (after false .waiting) k 0 + cond this 1 0 ≡ getD w k 0

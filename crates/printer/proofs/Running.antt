@@ -12,15 +12,15 @@ use lib.Seq.{drop-cons, drop-length, set-at}
 use Rattle.refusal.specs.Answers.{accepted}
 use Rattle.printer.specs.declared.Arrival.{Arrival}
 use Rattle.printer.specs.Arrivals.{arrivals, kioskCount, simulationSays}
-use Rattle.printer.specs.Turns.{came, behind, idle, nextKiosk, Printer, printer, served, afterTurn, newPrinter, printerAt, turnByte, turnBytes}
+use Rattle.printer.specs.Turns.{came, behind, idle, nextKiosk, Printer, printer, afterPrint, afterTurn, newPrinter, printerAt, turnByte, turnBytes}
 use Rattle.printer.specs.HowRun.{Ready}
 use Rattle.printer.proofs.Judging.{simulation-accepted}
 use Rattle.printer.proofs.Arriving.{set-most}
 use Rattle.printer.proofs.Fairness.{served-first, no-prints, length-bytes}
 
 -- ---- one turn
-served-few : (w : List ℕ) (first b most : ℕ) → ((k : ℕ) → getD w k 0 ≤ most) → (k : ℕ) → getD (served w first b .waiting) k 0 ≤ most
-unfolding served
+served-few : (w : List ℕ) (first b most : ℕ) → ((k : ℕ) → getD w k 0 ≤ most) → (k : ℕ) → getD (afterPrint w first b .waiting) k 0 ≤ most
+unfolding afterPrint
 served-few w first b most h = by (eqb b idle)
   where
     by : (none : Bool) (k : ℕ) → getD ((cond {A = Printer} none (printer w first) (printer (set w b (getD w b 0 - 1)) (behind b))) .waiting) k 0 ≤ most
@@ -29,15 +29,15 @@ served-few w first b most h = by (eqb b idle)
 
 module _ (list : List Arrival) (t : ℕ) (before w left : List ℕ) (first b after next : ℕ) where
   pub turn-taken :
-      w ≡ came t list before → Ready list (t + 1) w next → b ≡ nextKiosk w first → printer left after ≡ served w first b → first < kioskCount
+      w ≡ came t list before → Ready list (t + 1) w next → b ≡ nextKiosk w first → printer left after ≡ afterPrint w first b → first < kioskCount
       → (b ≡ nextKiosk (came t list before) first) × ((printer left after ≡ afterTurn list t (printer before first)) × (Ready list (t + 1) left next × (after < kioskCount)))
   unfolding afterTurn
   turn-taken e r f g h =
-      let waiting : left ≡ served w first b .waiting = ap (λ (p : Printer). p .waiting) g in
-      let round : after ≡ served w first b .first = ap (λ (p : Printer). p .first) g in (
+      let waiting : left ≡ afterPrint w first b .waiting = ap (λ (p : Printer). p .waiting) g in
+      let round : after ≡ afterPrint w first b .first = ap (λ (p : Printer). p .first) g in (
         f ∙ ap (λ (x : List ℕ). nextKiosk x first) e,
         (
-          g ∙ ap (served w first) f ∙ ap (λ (x : List ℕ). served x first (nextKiosk x first)) e,
+          g ∙ ap (afterPrint w first) f ∙ ap (λ (x : List ℕ). afterPrint x first (nextKiosk x first)) e,
           (
             record { listed = r .listed; within = r .within; due = r .due; past = r .past; few = rw waiting (served-few w first b _ (r .few)) },
             rw round (served-first w first b h),

@@ -38,13 +38,13 @@ abbrev pub printer : List ℕ → ℕ → Printer
 printer waiting first = record { waiting = waiting; first = first }
 
 -- Rule 14.4: what is left once a print is made for kiosk k, behind which the next turn goes on. Without a print all stays.
-unfoldable pub served : List ℕ → ℕ → ℕ → Printer
-served waiting first k =
+unfoldable pub afterPrint : List ℕ → ℕ → ℕ → Printer
+afterPrint waiting first k =
     cond (eqb k idle) (printer waiting first) (printer (set waiting k (getD waiting k 0 - 1)) (behind k))
 
 -- Rules 14.3 and 14.4: one turn.
 unfoldable pub afterTurn : List Arrival → ℕ → Printer → Printer
-afterTurn list t p = served (came t list (p .waiting)) (p .first) (nextKiosk (came t list (p .waiting)) (p .first))
+afterTurn list t p = afterPrint (came t list (p .waiting)) (p .first) (nextKiosk (came t list (p .waiting)) (p .first))
 
 -- Rule 14.4: before the first turn nothing waits, and kiosk 0 is the first to be looked at.
 unfoldable pub newPrinter : Printer

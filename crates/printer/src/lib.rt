@@ -8,7 +8,7 @@ ghost use Prim.Native.Nat.{ℕ, _+_, _<_};
 ghost use lib.ListN.{length, getD};
 ghost use Rattle.refusal.specs.Answers.{said, accepted, leaves};
 ghost use Rattle.printer.specs.Arrivals.{noArrival, arrivals, kioskCount, keepsLimits, simulationSays};
-ghost use Rattle.printer.specs.Turns.{came, behind, nextKiosk, printer, served, afterTurn, turnBytes};
+ghost use Rattle.printer.specs.Turns.{came, behind, nextKiosk, printer, afterPrint, afterTurn, turnBytes};
 ghost use Rattle.printer.specs.Fairness.{Fair};
 ghost use Rattle.printer.specs.HowRun.{Ready, Servable};
 
@@ -167,7 +167,7 @@ fn next_kiosk(waiting: &[u32; KIOSKS], first: usize) -> u8
 // One print is made for kiosk k, or none. The result is the kiosk that the next turn looks at first.
 fn serve(k: u8, first: usize, waiting: &mut [u32; KIOSKS]) -> usize
     requires { ⌜ Servable (now waiting) k ⌝ }
-    ensures { λ r. ⌜ printer (now (waiting .exit)) r ≡ served (now (waiting .entry)) first k ⌝ }
+    ensures { λ r. ⌜ printer (now (waiting .exit)) r ≡ afterPrint (now (waiting .entry)) first k ⌝ }
 {
     if k == IDLE {
         return first;

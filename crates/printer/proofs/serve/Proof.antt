@@ -3,7 +3,7 @@
 use mathlib.Core.Path.{_≡_, refl, sym, ap, _∙_}
 use native.Mathlib.Omega.{arith}
 use borrow.Author.Tests.{eq-eqb, ne-eqb}
-use Rattle.printer.specs.Turns.{served}
+use Rattle.printer.specs.Turns.{afterPrint}
 use borrow.Author.Needs.{needs}
 use Rattle.printer.proofs.serve.Statement.{statement}
 use Rattle.printer.proofs.serve.Tie as tie
@@ -11,7 +11,7 @@ use Rattle.printer.proofs.serve.Reads as reads
 use Rattle.printer.proofs.serve.Lts as lts
 
 returns : tie.Need-returns
-unfolding served
+unfolding afterPrint
 returns c = simp (eq-eqb _ 255 (c .if1 .taken))
 
 mul-waiting : tie.Need-mul-waiting
@@ -33,7 +33,7 @@ kiosk-behind-requires : tie.Need-kiosk-behind-requires
 kiosk-behind-requires c κs = c .before .before .pre .there (c .before .if1 .left)
 
 returns-2 : tie.Need-returns-2
-unfolding served
+unfolding afterPrint
 returns-2 c = simp (ne-eqb _ 255 (c .before .before .if1 .left), c .kiosk-behind .ensures)
 
 pub serve-spec : {M : Type 1} → statement M

@@ -67,8 +67,8 @@ enum kiosk_refusal {
                                             its records */
     KIOSK_WRONG_STRIDE = 21,             /* a stride below a row's own bytes; for kiosk_relayout also gaps between
                                             rows, which a plain spool cannot have */
-    KIOSK_WRONG_ARRIVAL = 22             /* an arrival at the printer that breaks a limit, or is one too many; place: its
-                                            number from 0 */
+    KIOSK_WRONG_ARRIVAL = 22             /* an arrival at the printer that breaks a limit, or is one too many;
+                                            place: its number from 0 */
 };
 
 /* What a frame's pixels are (rule 7.3). */
@@ -204,26 +204,26 @@ int64_t kiosk_tint_light(double red, double green, double blue, uint16_t pixel[3
 int64_t kiosk_stickers(const uint8_t *src, size_t src_len, const uint16_t tints[KIOSK_TINT_CODES], size_t budget,
                        uint8_t *dst, size_t dst_len, uint8_t four[4], uint32_t sums[2], size_t *place);
 
-/* ---- A printer that kiosks share (rule 14), played turn by turn: in each turn prints arrive, and then the printer makes
- * one print, for the next kiosk in turn that has one waiting. ---- */
+/* ---- A printer that kiosks share (rule 14), simulated turn by turn: prints arrive, and one print is made for the next
+ * kiosk in turn that has some waiting. ---- */
 
 /* The kiosks at the printer, which count from 0, and what is written for a turn without a print. */
 #define KIOSK_PRINTER_KIOSKS 8
 #define KIOSK_PRINTER_IDLE 255
 
-/* The limits of arrivals: how many there are at most, which turn each comes before, and the most prints of one. */
+/* The limits of arrivals: how many there are at most, the turn that all come before, and the most prints of one. */
 #define KIOSK_ARRIVAL_LIMIT 1000
 #define KIOSK_TURN_LIMIT 100000
 #define KIOSK_PRINT_LIMIT 999
 
-/* Plays served_len turns, from turn 0 on, and gives their number. An arrival is three numbers, a turn, a kiosk and how
- * many prints come for it then, and arrivals_len counts numbers. In each turn all arrivals of that turn come first. Then
- * one print is made, for the first kiosk with prints waiting, going round from the one behind the last kiosk served; as
- * long as none has been served, from kiosk 0. served[t] gets the kiosk of turn t, or KIOSK_PRINTER_IDLE if no prints
- * waited. A kiosk with prints waiting is served within KIOSK_PRINTER_KIOSKS turns, if so many are played.
- * Refuses with 22 at the first arrival whose kiosk is not one of the printer's, whose prints are none or too many, whose
- * turn is too late or before that of the arrival in front of it, that lacks one of its three numbers, or that is beyond
- * KIOSK_ARRIVAL_LIMIT. Arrivals at turns that are not played are looked at too. */
+/* Simulates served_len turns, from turn 0 on, and gives their number. Three numbers are an arrival: a turn, a
+ * kiosk, and how many prints come for it then; arrivals_len counts numbers. A turn begins with its arrivals. Then a
+ * print is made for the first kiosk with prints waiting, going round from the kiosk behind the last one served, or
+ * from kiosk 0 until one has been. served[t] gets that kiosk, or KIOSK_PRINTER_IDLE if no kiosk has prints waiting
+ * in turn t. Of as many turns as there are kiosks, one serves a kiosk that has prints waiting in the first of them.
+ * Refuses with 22 at the first arrival whose kiosk is not one of the printer's, whose prints are none or too many,
+ * whose turn is too late or before that of the arrival in front of it, that lacks one of its three numbers, or that
+ * is beyond KIOSK_ARRIVAL_LIMIT. Arrivals in turns that are not simulated are looked at too. */
 int64_t kiosk_printer(const uint32_t *arrivals, size_t arrivals_len, uint8_t *served, size_t served_len, size_t *place);
 
 /* ---- Spool files (rule 7), of two layouts, told apart by the first two bytes. Where these are 65,535 the spool is

@@ -37,7 +37,7 @@ pub record ServedSoon (bytes : List ℕ) (t k : ℕ) : Type 0 where
 pub record Fair (list : List Arrival) (bytes : List ℕ) : Type 0 where
   -- Rule 14.6: after each turn, for each kiosk, the prints made and those waiting are the prints that came.
   pub conserved : (n k : ℕ) → n ≤ length bytes → k < kioskCount → made k (take n bytes) + waitingAfter list n k ≡ arrived list n k
-  -- Rule 14.7: a kiosk with prints waiting is served within eight turns, if so many are left.
+  -- Rule 14.7: of eight turns one serves a kiosk that has prints waiting in the first of them.
   pub soon : (t k : ℕ) → t + kioskCount ≤ length bytes → k < kioskCount → Waits list bytes t k → ServedSoon bytes t k
   -- Rule 14.8: a turn without a print is one in which no kiosk has prints waiting.
   pub unused : (t k : ℕ) → t < length bytes → k < kioskCount → getD bytes t 0 ≡ idle → Waits list bytes t k → ⊥

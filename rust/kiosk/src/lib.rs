@@ -227,9 +227,9 @@ pub const TURN_LIMIT: u32 = 100_000;
 /// The most prints of an arrival: the header's KIOSK_PRINT_LIMIT.
 pub const PRINT_LIMIT: u32 = 999;
 
-/// Plays a printer that [`KIOSKS`] kiosks share, as many turns as `served` has bytes, and gives their number (rule 14).
-/// In each turn its arrivals come first; then one print is made, for the first kiosk with prints waiting, going round
-/// from the one behind the last kiosk served. The turn's byte gets that kiosk, or [`IDLE`] if none had prints waiting. An
+/// Simulates a printer that [`KIOSKS`] kiosks share, as many turns as `served` has bytes, and gives their number (rule
+/// 14). A turn begins with its arrivals; then a print is made for the first kiosk with prints waiting, going round from
+/// the kiosk behind the last one served. The turn's byte gets that kiosk, or [`IDLE`] if no kiosk has prints waiting. An
 /// arrival that breaks a limit is refused with its number as place.
 pub fn printer(arrivals: &[Arrival], served: &mut [u8]) -> Result<usize, Refusal> {
     counted(calls::printer(arrivals, served))

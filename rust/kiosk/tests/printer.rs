@@ -74,7 +74,7 @@ fn summary(rows: &[(usize, &str)], all: &str, later: Option<usize>) -> String {
     }
     summary += &row("all", all);
     if let Some(later) = later {
-        summary += &format!("prints that arrive after the turns played: {later}\n");
+        summary += &format!("prints that arrive after the turns simulated: {later}\n");
     }
     summary
 }
@@ -275,7 +275,7 @@ fn one_arrival_too_many() {
 /// As many prints as there can be, all in the last turn that there can be: they are made in the turns that may be
 /// asked for, and are those of the wrapper.
 #[test]
-fn plays_until_every_print_is_made() {
+fn simulates_until_every_print_is_made() {
     let folder = folder("printer-longest");
     let kiosks = (0..1_000).map(|k| k * k % 8);
     let list: String = kiosks.clone().map(|k| format!("99999,{k},999\n")).collect();

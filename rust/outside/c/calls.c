@@ -600,7 +600,7 @@ static int printer_refused_at(size_t at, const uint32_t *arrivals, size_t arriva
 
 /* In turn 0 kiosk 2 is the first from 0 on, and then 5 the first behind 2. In turn 2 kiosk 0 has come, and is looked at
  * behind 6 and 7, before 2. In turn 5 kiosk 3 is served, and the idle turn 6 leaves it the last one served: of 3 and 4,
- * which come together in turn 7, it is 4 that is the next. Turn 23 is not played. */
+ * which come together in turn 7, it is 4 that is the next. Turn 23 is not simulated. */
 static void printer(void)
 {
     static const uint32_t arrivals[21] = {0, 2, 2, 0, 5, 1, 2, 0, 1, 5, 3, 1, 7, 3, 1, 7, 4, 1, 23, 6, 999};
@@ -614,7 +614,7 @@ static void printer(void)
         CHECK(prints(arrivals, 21, expected, turns));
     memset(idle, KIOSK_PRINTER_IDLE, sizeof idle);
     CHECK(prints(arrivals, 0, idle, sizeof idle) && prints(arrivals, 0, idle, 0));
-    /* As long as none has been served kiosk 0 is the first, behind idle turns too. */
+    /* Until a kiosk has been served, the round starts at kiosk 0, behind idle turns too. */
     idle[2] = 0;
     idle[3] = 7;
     CHECK(prints(late, 6, idle, sizeof idle));

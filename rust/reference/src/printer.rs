@@ -74,7 +74,7 @@ fn candidates(last: Option<usize>) -> Vec<usize> {
     }
 }
 
-/// Plays as many turns as `served` has bytes, and writes the kiosk of each. `numbers` are a turn, a kiosk and prints
+/// Simulates as many turns as `served` has bytes, and writes the kiosk of each. `numbers` are a turn, a kiosk and prints
 /// for each arrival.
 pub fn printer(numbers: &[u32], served: &mut [u8]) -> Result<usize, Refusal> {
     let mut queues = queues(&arrivals(numbers)?);
@@ -135,8 +135,7 @@ mod tests {
         assert_eq!(turns(&arrivals, 7), [IDLE, 3, IDLE, 4, 2, 3, IDLE]);
     }
 
-    /// As long as none has been served kiosk 0 is looked at first, in whatever turn and whoever comes first in the
-    /// list.
+    /// Until a kiosk has been served, the round starts at kiosk 0, in whatever turn and whoever comes first in the list.
     #[test]
     fn kiosk_0_is_the_first() {
         assert_eq!(turns(&[[0, 7, 2], [0, 0, 1]], 4), [0, 7, 7, IDLE]);
@@ -163,7 +162,7 @@ mod tests {
         assert_eq!(turns(&all, 17), expected);
     }
 
-    /// Two arrivals of one kiosk in one turn add up, and one at a turn that is not played changes nothing.
+    /// Two arrivals of one kiosk in one turn add up, and one at a turn that is not simulated changes nothing.
     #[test]
     fn equal_arrivals_and_later_ones() {
         let arrivals = [[1, 4, 1], [1, 4, 1], [4, 1, 1]];

@@ -26,7 +26,7 @@ fn arrival(turn: u32, kiosk: u32, prints: u32) -> Arrival {
 }
 
 /// A call by both, over a destination that held `before`: the answer of both, and the bytes after it.
-fn play(arrivals: &[Arrival], before: &[u8]) -> (Result<usize, Refusal>, Vec<u8>) {
+fn simulate(arrivals: &[Arrival], before: &[u8]) -> (Result<usize, Refusal>, Vec<u8>) {
     let numbers: Vec<u32> = arrivals
         .iter()
         .flat_map(|a| [a.turn, a.kiosk, a.prints])
@@ -46,15 +46,15 @@ fn play(arrivals: &[Arrival], before: &[u8]) -> (Result<usize, Refusal>, Vec<u8>
 }
 
 /// The turns of a list that stands, which keep the promises, over bytes that held something else.
-fn plays(arrivals: &[Arrival], turns: usize) -> Run {
-    let (answer, served) = play(arrivals, &vec![0x5a; turns]);
+fn simulates(arrivals: &[Arrival], turns: usize) -> Run {
+    let (answer, served) = simulate(arrivals, &vec![0x5a; turns]);
     assert_eq!(answer, Ok(turns));
     Run::counted(arrivals, &served)
 }
 
 /// Where a list is refused, with nothing written.
 fn refused(arrivals: &[Arrival], before: &[u8]) -> usize {
-    let (answer, served) = play(arrivals, before);
+    let (answer, served) = simulate(arrivals, before);
     assert_eq!(served, before);
     let refusal = answer.expect_err("a list at fault is refused");
     assert_eq!(refusal.number, 22);
@@ -152,27 +152,27 @@ fn any_turns(arrivals: &[Arrival], random: &mut Random) -> usize {
 }
 
 /// Lists of many shapes, with any number of turns. Many turns are idle and many are not, many lists have arrivals at
-/// turns that are not played, and in many a kiosk waits as long as it may.
+/// turns that are not simulated, and in many a kiosk waits as long as it may.
 pub fn shapes() -> u64 {
     const LISTS: u64 = 100_000;
     let mut random = Random::new(41);
-    let (mut idle, mut printed, mut unplayed, mut longest) = (0, 0, 0, 0);
+    let (mut idle, mut printed, mut beyond, mut longest) = (0, 0, 0, 0);
     let (mut without_turns, mut without_arrivals) = (0, 0);
     for _ in 0..LISTS {
         let shape = Shape::any(&mut random);
         let most = random.pick(&[2, 6, 40, 60]);
         let arrivals = shape.list(random.below(most) as usize, &mut random);
         let turns = any_turns(&arrivals, &mut random);
-        let run = plays(&arrivals, turns);
+        let run = simulates(&arrivals, turns);
         idle += run.idle;
         printed += turns - run.idle;
-        unplayed += usize::from(last_turn(&arrivals) >= turns && turns > 0);
+        beyond += usize::from(last_turn(&arrivals) >= turns && turns > 0);
         longest += usize::from(run.longest == KIOSKS - 1);
         without_turns += usize::from(turns == 0);
         without_arrivals += usize::from(arrivals.is_empty());
     }
     assert!(idle > 2_000_000 && printed > 2_000_000, "{idle} {printed}");
-    assert!(unplayed > 10_000 && longest > 2_500, "{unplayed} {longest}");
+    assert!(beyond > 10_000 && longest > 2_500, "{beyond} {longest}");
     assert!(
         without_turns > 10_000 && without_arrivals > 10_000,
         "{without_turns} {without_arrivals}"
@@ -190,7 +190,7 @@ pub fn every_small_list() -> u64 {
         lists = lists.iter().flat_map(|list| continued(list)).collect();
         for list in &lists {
             for turns in 0..=TURNS {
-                let run = plays(list, turns);
+                let run = simulates(list, turns);
                 let left: u64 = run.waiting.iter().sum();
                 assert!(turns < TURNS || left == 0);
                 count += 1;
@@ -249,7 +249,7 @@ pub fn unfair() -> u64 {
     let mut count = 0;
     for kiosk in 0..KIOSKS {
         for others in [0, 1, 30, 200, 900] {
-            let run = plays(&greedy(kiosk as u32, others, &mut random), TURNS);
+            let run = simulates(&greedy(kiosk as u32, others, &mut random), TURNS);
             assert_eq!((run.made[kiosk] as usize, run.idle), (TURNS - others, 0));
             assert_eq!(run.longest > 0, others > 0);
             count += 1;
@@ -258,7 +258,7 @@ pub fn unfair() -> u64 {
     // All at once, or one of them a turn before the others.
     for first in 0..=KIOSKS {
         let turns = from_fn(|kiosk| u32::from(first < KIOSKS && kiosk != first));
-        let run = plays(&full(turns), 600 * KIOSKS);
+        let run = simulates(&full(turns), 600 * KIOSKS);
         assert_eq!((run.made, run.idle), ([600; KIOSKS], 0));
         assert_eq!(run.longest, KIOSKS - 1);
         count += 1;
@@ -323,7 +323,7 @@ pub fn limits() -> u64 {
             put_edge(&mut arrivals, at, edge);
             for turns in [0, 1, 10 * at, 10 * at + 1, 100] {
                 if edge.1 {
-                    plays(&arrivals, turns);
+                    simulates(&arrivals, turns);
                     sound += 1;
                 } else {
                     assert_eq!(refused(&arrivals, &random.bytes(turns)), at);
@@ -333,9 +333,9 @@ pub fn limits() -> u64 {
         }
     }
     assert!(sound > 500 && count - sound > 500);
-    // The last turn that an arrival may have is played too.
+    // The last turn that an arrival may have is simulated too.
     for kiosk in [0, 7] {
-        let run = plays(&[arrival(LAST, kiosk, 1)], LAST as usize + 2);
+        let run = simulates(&[arrival(LAST, kiosk, 1)], LAST as usize + 2);
         assert_eq!((run.made[kiosk as usize], run.idle), (1, 100_000));
         count += 1;
     }
@@ -362,7 +362,7 @@ pub fn falling_turns() -> u64 {
                 assert_eq!(refused(&behind(turn), &random.bytes(turns)), at);
             }
             for turn in [before, before + 1] {
-                plays(&behind(turn), turns);
+                simulates(&behind(turn), turns);
             }
             count += 4;
         }
@@ -380,7 +380,7 @@ pub fn most_arrivals() -> u64 {
         let arrivals = rising(length, &mut random);
         for turns in [0, 1, 2_000] {
             if length <= MOST {
-                plays(&arrivals, turns);
+                simulates(&arrivals, turns);
             } else {
                 assert_eq!(refused(&arrivals, &random.bytes(turns)), MOST);
             }
@@ -424,7 +424,7 @@ pub fn faults() -> u64 {
         assert_eq!(refused(&arrivals, &random.bytes(turns)), first);
 
         let near: Vec<Arrival> = (0..length).map(|k| near_limits(k, &mut random)).collect();
-        match play(&near, &random.bytes(turns)).0 {
+        match simulate(&near, &random.bytes(turns)).0 {
             Ok(_) => sound += 1,
             Err(refusal) => places.extend(refusal.place),
         }
@@ -484,7 +484,7 @@ pub fn longest() -> u64 {
         };
         let mut arrivals: Vec<Arrival> = (0..MOST).map(any).collect();
         arrivals.sort_by_key(|a| a.turn);
-        let run = plays(&arrivals, turns);
+        let run = simulates(&arrivals, turns);
         let made: u64 = run.made.iter().sum();
         let left: u64 = run.waiting.iter().sum();
         assert_eq!(made + left, 1_000 * u64::from(prints));

@@ -1,5 +1,5 @@
 //! The kiosk command: lists, checks, converts, compares and previews the frames of a spool file, chooses stickers for
-//! them, writes a spool in the other layout, converts tints, and plays the turns of a printer that kiosks share.
+//! them, writes a spool in the other layout, converts tints, and simulates the turns of a printer that kiosks share.
 
 #![forbid(unsafe_code)]
 
@@ -78,7 +78,7 @@ tint      prints a colour as a pixel of 12-bit e-sRGB: three codes from 0 to 409
           Codes of 8-bit sRGB are from 0 to 255. Nonlinear numbers have black at 0
           and white at 1, light has reference white at 1, and both may be any
           finite number: what a code cannot hold is clipped
-printer   plays N turns of a printer that kiosks 0 to 7 share. In each turn
+printer   simulates N turns of a printer that kiosks 0 to 7 share. In each turn
           prints arrive first; then one is made, for the first kiosk with prints
           waiting, going round from the one behind the last kiosk served. It
           prints a line for each kiosk and one for all: the prints that arrived,
@@ -218,7 +218,7 @@ impl<'a> Words<'a> {
         Ok(asked)
     }
 
-    /// How long a printer is to be played, and where its files go.
+    /// How long a printer is to be simulated, and where its files go.
     fn printer(&self) -> Result<printer::Asked<'a>, Failure> {
         let asked = printer::Asked {
             turns: turns(self.wanted("--turns")?)?,
@@ -328,7 +328,7 @@ fn run_for_frame(command: &str, file: &Path, frame: &OsStr, words: &Words) -> Re
 }
 
 /// A whole number, for what is named. One that is too great for the machine is no frame's either, as a budget it is
-/// more than enough, and so many turns are not played.
+/// more than enough, and so many turns are not simulated.
 fn number(word: &OsStr, what: &str) -> Result<usize, Failure> {
     match word.to_str() {
         Some(digits) if !digits.is_empty() && digits.bytes().all(|b| b.is_ascii_digit()) => {
@@ -338,7 +338,7 @@ fn number(word: &OsStr, what: &str) -> Result<usize, Failure> {
     }
 }
 
-/// A number of turns to play.
+/// A number of turns to simulate.
 fn turns(word: &OsStr) -> Result<usize, Failure> {
     let turns = number(word, "number of turns")?;
     if turns > printer::TURNS_LIMIT {

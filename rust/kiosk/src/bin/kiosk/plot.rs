@@ -232,12 +232,12 @@ mod tests {
             kiosk,
             prints,
         });
-        let mut played = vec![4; 800];
-        played[0] = 3;
+        let mut served = vec![4; 800];
+        served[0] = 3;
         for waits in [
             Waits::of(&[], &[], COLUMNS),
             Waits::of(&[], &[IDLE; 1_234], COLUMNS),
-            Waits::of(&arrivals, &played, COLUMNS),
+            Waits::of(&arrivals, &served, COLUMNS),
         ] {
             for shape in drawn(&waits).shapes {
                 let Shape::Text { words, .. } = shape else {

@@ -44,7 +44,7 @@ impl<'a> Plot<'a> {
     }
 }
 
-/// The most turns that are played: so many that every print of the longest list is made, even if all of them arrive in
+/// The most turns that are simulated: so many that every print of the longest list is made, even if all of them arrive in
 /// the last turn that they may. Every turn after that would be without a print.
 pub const TURNS_LIMIT: usize = TURN_LIMIT as usize + ARRIVAL_LIMIT * PRINT_LIMIT as usize;
 
@@ -87,7 +87,7 @@ fn report(waits: &Waits) -> String {
     report += &row("all".into(), &waits.all());
     if waits.later > 0 {
         let later = waits.later;
-        report += &format!("prints that arrive after the turns played: {later}\n");
+        report += &format!("prints that arrive after the turns simulated: {later}\n");
     }
     report
 }

@@ -1,6 +1,6 @@
 //! How long prints wait at the printer. The wait of a print is the number of turns from the one in which it arrives to
 //! the one in which it is made: 0 if it is made in the turn in which it arrives. For a print that still waits at the
-//! end it is the number of turns to the last one played. The prints of a kiosk are made in the order in which they
+//! end it is the number of turns to the last one simulated. The prints of a kiosk are made in the order in which they
 //! arrive.
 
 use kiosk::{Arrival, IDLE, KIOSKS};
@@ -45,7 +45,7 @@ impl Tally {
     }
 }
 
-/// A kiosk's prints in the turns played.
+/// A kiosk's prints in the turns simulated.
 #[derive(Default)]
 pub struct Kiosk {
     pub tally: Tally,
@@ -89,11 +89,11 @@ impl Kiosk {
     }
 }
 
-/// What happened at the printer in the turns played.
+/// What happened at the printer in the turns simulated.
 pub struct Waits {
     pub turns: usize,
     pub kiosks: [Kiosk; KIOSKS],
-    /// The prints that arrive after the turns played, which are counted nowhere else.
+    /// The prints that arrive after the turns simulated, which are counted nowhere else.
     pub later: usize,
 }
 
@@ -150,7 +150,7 @@ mod tests {
     }
 
     /// Kiosk 2 gets two prints in turn 0 and one in turn 3, kiosk 5 two in turn 1, and one in turn 9, which is not
-    /// played. Kiosk 2's are made in turns 0, 2 and 4, with waits of 0, 2 and 1; kiosk 5's in turns 1 and 3, with
+    /// simulated. Kiosk 2's are made in turns 0, 2 and 4, with waits of 0, 2 and 1; kiosk 5's in turns 1 and 3, with
     /// waits of 0 and 2.
     #[test]
     fn waits_in_the_order_of_arrival() {

@@ -1,9 +1,9 @@
 -- No print is lost, no kiosk waits for more than eight turns, and no turn is left unused while one waits.
 -- Assumes nothing.
-use Prim.Native.Nat.{ℕ, zero, suc, _+_, _-_, _%_, _≤_, _<_}
-use mathlib.Core.Path.{_≡_, refl, sym, ap, subst, _∙_}
+use Prim.Native.Nat.{ℕ, zero, suc, _+_, _-_, _≤_, _<_}
+use mathlib.Core.Path.{_≡_, refl, sym, ap, _∙_}
 use mathlib.Core.Bool.{Bool, true, false, cond, _&&_}
-use mathlib.Core.List.{List, [], _∷_, _++_}
+use mathlib.Core.List.{List, [], _∷_}
 use mathlib.Core.Logic.{⊎-elim}
 use native.Mathlib.Nat.{eq-or-lt-of-le}
 use native.Mathlib.Numerals.{add-one}
@@ -11,13 +11,13 @@ use native.Mathlib.Omega.{arith}
 use lib.Dec.{ltb, eqb}
 use lib.ListN.{length, getD, set, take, replicate, length-append, length-set, List·getD-append}
 use lib.Seq.{getD-at, take-all, take-append-le}
-use borrow.Author.Tests.{ltb-true, ltb-false, lt-ltb, le-ltb, eqb-true, eqb-false, eq-eqb, ne-eqb}
+use borrow.Author.Tests.{ltb-true, ltb-false, lt-ltb, le-ltb, eqb-true, eqb-false, ne-eqb}
 use Rattle.numbers.specs.Counting.{howMany}
 use Rattle.numbers.proofs.Counting.{count-append}
 use Rattle.printer.specs.declared.Arrival.{Arrival}
 use Rattle.printer.specs.Arrivals.{kioskCount}
-use Rattle.printer.specs.Turns.{came, behind, idle, nextFrom, nextKiosk, Printer, printer, afterPrint, afterTurn, newPrinter, printerAt, waitingIn, turnByte, turnBytes}
-use Rattle.printer.specs.Fairness.{arrived, made, waitingAfter, Waits, ServedSoon, Fair}
+use Rattle.printer.specs.Turns.{came, behind, idle, nextKiosk, Printer, printer, afterPrint, afterTurn, newPrinter, printerAt, waitingIn, turnByte, turnBytes}
+use Rattle.printer.specs.Fairness.{arrived, made, waitingAfter, Waits, Fair}
 use Rattle.printer.specs.HowRun.{Servable}
 use Rattle.printer.proofs.Arriving.{set-here, set-elsewhere}
 use Rattle.printer.proofs.Rounds.{ahead, next-servable, next-nearer}

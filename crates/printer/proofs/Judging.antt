@@ -1,7 +1,7 @@
 -- A list of arrivals, one after another: what is said of it, and what is known of one that is accepted.
 -- Assumes nothing.
 use Prim.Native.Nat.{ℕ, _+_, _*_, _/_, _%_, _≤_, _<_}
-use mathlib.Core.Path.{_≡_, refl, sym, ap, _∙_}
+use mathlib.Core.Path.{_≡_, refl, ap, _∙_}
 use mathlib.Core.Bool.{Bool, true, false, cond}
 use mathlib.Core.List.{List, [], _∷_}
 use native.Mathlib.Numerals.{add-one}
@@ -12,7 +12,7 @@ use lib.Seq.{drop-cons}
 use borrow.Author.Tests.{ltb-true, leb-true}
 use Rattle.numbers.proofs.Booleans.{and-true}
 use Rattle.numbers.proofs.Threes.{length-threes, three-at}
-use Rattle.refusal.specs.Answers.{Verdict, sound, faulty, Said, accepted, refusedAt, decides}
+use Rattle.refusal.specs.Answers.{sound, faulty, Said, accepted, refusedAt, decides}
 use Rattle.refusal.proofs.Verdicts.{not-accepted-at}
 use Rattle.printer.specs.declared.Arrival.{Arrival}
 use Rattle.printer.specs.Arrivals.{arrivalSize, arrival, noArrival, arrivals, turnLimit, kioskCount, arrivalLimit, keepsLimits, arrivalsSay, endSays, simulationSays}

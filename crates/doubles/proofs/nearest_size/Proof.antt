@@ -51,22 +51,22 @@ add-result-2 c = omega (arith, less (c .before .before .before .before))
 returns-3 : tie.Need-returns-3
 returns-3 c =
     let p = c .before .before .before .before in
-    up-rounds _ _ (search needs) (between p) _ (p .truncating-f64-to-u64 .ensures) _ (c .before .enum-told .given .1) true (cc (c .if3 .taken))
+    up-rounds _ _ (search needs) (between p) _ (p .truncating-f64-to-u64 .ensures) _ (c .before .enum-told .given .1) true (c .if3 .taken)
 
 returns-4 : tie.Need-returns-4
 returns-4 c =
     let p = c .before .before .before .before in
-    up-rounds _ _ (search needs) (between p) _ (p .truncating-f64-to-u64 .ensures) _ (c .before .enum-told .given .1) false (cc (c .if3 .left))
+    up-rounds _ _ (search needs) (between p) _ (p .truncating-f64-to-u64 .ensures) _ (c .before .enum-told .given .1) false (c .if3 .left)
 
 returns-5 : tie.Need-returns-5
 returns-5 c =
     let p = c .before .before .before .before in
-    down-rounds _ _ (search needs) (between p) _ (p .truncating-f64-to-u64 .ensures) _ (c .before .enum-told2 .given .1) true (cc (c .if4 .taken))
+    down-rounds _ _ (search needs) (between p) _ (p .truncating-f64-to-u64 .ensures) _ (c .before .enum-told2 .given .1) true (c .if4 .taken)
 
 returns-6 : tie.Need-returns-6
 returns-6 c =
     let p = c .before .before .before .before in
-    down-rounds _ _ (search needs) (between p) _ (p .truncating-f64-to-u64 .ensures) _ (c .before .enum-told2 .given .1) false (cc (c .if4 .left))
+    down-rounds _ _ (search needs) (between p) _ (p .truncating-f64-to-u64 .ensures) _ (c .before .enum-told2 .given .1) false (c .if4 .left)
 
 pub nearest-size-spec : {M : Type 1} → statement M
 nearest-size-spec =

@@ -35,16 +35,16 @@ cast-result-2 c = search needs
 returns : tie.Need-returns
 returns c =
     let a = c .before .before .args in
-    let size : c .nearest-size .result ≡ nearestSize Down (a .below) (neg (a .x)) = cc (c .nearest-size .ensures) in
+    let size : c .nearest-size .result ≡ nearestSize Down (a .below) (neg (a .x)) = c .nearest-size .ensures in
     opposite-is w64 (c .nearest-size .result) (small c)
     ∙ ap (λ (n : ℕ). negℤ (pos n)) size
-    ∙ of-negative (a .below) (a .above) (a .x) (cc (c .before .if1 .taken))
+    ∙ of-negative (a .below) (a .above) (a .x) (c .before .if1 .taken)
 
 returns-2 : tie.Need-returns-2
 returns-2 c =
     let a = c .before .before .args in
-    let size : c .nearest-size2 .result ≡ nearestSize Up (a .above) (a .x) = cc (c .nearest-size2 .ensures) in
-    toZ-pos w64 (c .nearest-size2 .result) (search needs) ∙ ap pos size ∙ of-other (a .below) (a .above) (a .x) (cc (c .before .if1 .left))
+    let size : c .nearest-size2 .result ≡ nearestSize Up (a .above) (a .x) = c .nearest-size2 .ensures in
+    toZ-pos w64 (c .nearest-size2 .result) (search needs) ∙ ap pos size ∙ of-other (a .below) (a .above) (a .x) (c .before .if1 .left)
 
 pub nearest-whole-spec : {M : Type 1} → statement M
 nearest-whole-spec =

@@ -34,7 +34,7 @@ returns c =
     let two = c .before .before .before in
     let one = two .before .before .before in
     let fits = one .before .before .before .before .before .fits in
-    cc (
+    simp (
       one .code-of .ensures,
       read _ (fits .red),
       two .code-of2 .ensures,

@@ -3,7 +3,7 @@
 use mathlib.Core.Path.{sym}
 use native.Mathlib.Omega.{arith}
 use denote.Ref.{now}
-use lib.ListN.{length, List·getD-eq-default}
+use lib.ListN.{List·getD-eq-default}
 use Rattle.printer.specs.Arrivals.{noArrival, arrivals}
 use Rattle.printer.proofs.Judging.{length-arrivals, arrival-is}
 use borrow.Author.Needs.{needs}

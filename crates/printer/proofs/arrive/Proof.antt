@@ -1,19 +1,16 @@
 -- `printer::arrive` meets its contract: each arrival of the turn comes, and the first of a later turn ends it.
 -- Assumes nothing.
-use Prim.Native.Nat.{_-_, _+_, _<_}
-use mathlib.Core.Path.{_≡_, refl, sym, ap, subst, _∙_}
+use Prim.Native.Nat.{_-_}
+use mathlib.Core.Path.{sym, ap, subst, _∙_}
 use native.Mathlib.Omega.{arith}
 use denote.Ref.{now}
-use lib.ListN.{length, getD}
-use Rattle.printer.specs.Arrivals.{noArrival, arrivals}
+use Rattle.printer.specs.Arrivals.{arrivals}
 use Rattle.printer.specs.HowRun.{Due}
 use Rattle.printer.proofs.Judging.{length-arrivals}
 use Rattle.printer.proofs.Arriving.{Coming, coming-first, here-due, coming-more, stops-here, none-left, all-came, next-ready}
 use borrow.Author.Needs.{needs}
 use Rattle.printer.proofs.arrive.Statement.{statement}
 use Rattle.printer.proofs.arrive.Tie as tie
-use Rattle.printer.proofs.arrive.Reads as reads
-use Rattle.printer.proofs.arrive.Lts as lts
 
 abbrev Inv-loop : tie.InvT-loop
 Inv-loop numbers turn start waiting₀ count next₀ waiting next = Coming (arrivals numbers) turn waiting₀ waiting next

@@ -11,8 +11,6 @@ use Rattle.printer.proofs.Judging.{length-arrivals, say-on, say-here, s
 use borrow.Author.Needs.{needs}
 use Rattle.printer.proofs.judge.Statement.{statement}
 use Rattle.printer.proofs.judge.Tie as tie
-use Rattle.printer.proofs.judge.Reads as reads
-use Rattle.printer.proofs.judge.Lts as lts
 
 abbrev Inv-loop : tie.InvT-loop
 Inv-loop numbers turns count before₀ i₀ before i =

@@ -9,8 +9,6 @@ use Rattle.printer.proofs.Rounds.{next-on, next-here, next-none}
 use borrow.Author.Needs.{needs}
 use Rattle.printer.proofs.next_kiosk.Statement.{statement}
 use Rattle.printer.proofs.next_kiosk.Tie as tie
-use Rattle.printer.proofs.next_kiosk.Reads as reads
-use Rattle.printer.proofs.next_kiosk.Lts as lts
 
 abbrev Inv-loop : tie.InvT-loop
 Inv-loop waiting first left₀ k₀ left k = (left ≤ kioskCount) × (k < kioskCount) × (nextKiosk waiting first ≡ nextFrom waiting left k)

@@ -1,14 +1,10 @@
 -- `printer::serve` meets its contract, with a print and without.
 -- Assumes nothing.
-use mathlib.Core.Path.{_≡_, refl, sym, ap, _∙_}
-use native.Mathlib.Omega.{arith}
 use borrow.Author.Tests.{eq-eqb, ne-eqb}
 use Rattle.printer.specs.Turns.{afterPrint}
 use borrow.Author.Needs.{needs}
 use Rattle.printer.proofs.serve.Statement.{statement}
 use Rattle.printer.proofs.serve.Tie as tie
-use Rattle.printer.proofs.serve.Reads as reads
-use Rattle.printer.proofs.serve.Lts as lts
 
 returns : tie.Need-returns
 unfolding afterPrint

@@ -13,8 +13,6 @@ use Rattle.printer.proofs.Fairness.{fair}
 use borrow.Author.Needs.{needs}
 use Rattle.printer.proofs.simulate.Statement.{statement}
 use Rattle.printer.proofs.simulate.Tie as tie
-use Rattle.printer.proofs.simulate.Reads as reads
-use Rattle.printer.proofs.simulate.Lts as lts
 
 -- What the list is known to say where it is accepted.
 says :

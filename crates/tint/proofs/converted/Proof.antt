@@ -48,11 +48,11 @@ pixel-of-light-requires c κs = search needs
 
 returns : tie.Need-returns
 unfolding tintPixel
-returns c = (cc) ∙ sym (ap tintPixel (c .before .before .before .before .tint .given .1))
+returns c = (simp (c .before .before .from-srgb .ensures, c .before .from-srgb2 .ensures, c .from-srgb3 .ensures)) ∙ sym (ap tintPixel (c .before .before .before .before .tint .given .1))
 
 returns-2 : tie.Need-returns-2
 unfolding tintPixel
-returns-2 c = (cc) ∙ sym (ap tintPixel (c .before .before .before .before .tint2 .given .1))
+returns-2 c = (simp (c .before .before .nonlinear-code .ensures, c .before .nonlinear-code2 .ensures, c .nonlinear-code3 .ensures)) ∙ sym (ap tintPixel (c .before .before .before .before .tint2 .given .1))
 
 returns-3 : tie.Need-returns-3
 unfolding tintPixel

@@ -16,7 +16,7 @@ nearest-whole-requires c κs = search needs
 found :
     (c : tie.After-nearest-whole)
     → c .nearest-whole .result ≡ nearestWhole lightLimit lightLimit (times (c .before .args .number) (10 ^ 6))
-found c = cc (c .nearest-whole .ensures, is-million)
+found c = rw is-million at (c .nearest-whole .ensures)
 
 cast-result : tie.Need-cast-result
 cast-result c = signed-cast _ (record { sfits = c .nearest-whole .ok }) _ lightLimit (lit< tt) (found c)

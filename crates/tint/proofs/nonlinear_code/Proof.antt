@@ -16,7 +16,7 @@ nearest-whole-requires c κs = search needs
 found :
     (c : tie.After-nearest-whole)
     → c .nearest-whole .result ≡ nearestWhole 0 (greatest 12) (plus (times (c .before .args .number) (scale 12)) (offset 12))
-found c = cc (c .nearest-whole .ensures, is-scale, is-offset)
+found c = rw (is-scale, is-offset) at (c .nearest-whole .ensures)
 
 cast-result : tie.Need-cast-result
 cast-result c = natural-cast _ (record { sfits = c .nearest-whole .ok }) _ (greatest 12) (lit< tt) (found c)

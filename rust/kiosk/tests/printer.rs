@@ -1,6 +1,8 @@
 //! The printer on the command line: what is printed, written and drawn, and that bad input gives a clear error and no
 //! file.
 
+#[path = "shared/png.rs"]
+mod png;
 mod shared;
 
 use kiosk::{Arrival, IDLE};
@@ -310,21 +312,6 @@ const WHITE: [u8; 3] = [255; 3];
 const BACKGROUND: [u8; 3] = [241, 243, 244];
 const AREA: [u8; 3] = [26, 115, 185];
 
-/// The rows of a PNG picture whose data are stored, each behind the byte of its filter.
-fn rows_of(png: &[u8]) -> Vec<u8> {
-    let data = png.windows(4).position(|name| name == b"IDAT");
-    let mut rest = &png[data.expect("picture data") + 4 + 2..];
-    let mut rows = Vec::new();
-    loop {
-        let length = usize::from(u16::from_le_bytes([rest[1], rest[2]]));
-        rows.extend(&rest[5..5 + length]);
-        if rest[0] == 1 {
-            return rows;
-        }
-        rest = &rest[5 + length..];
-    }
-}
-
 /// The pixels of a plot, by x and y.
 fn pixels(folder: &Path, name: &str) -> impl Fn(usize, usize) -> [u8; 3] {
     let png = written(folder, name);
@@ -332,7 +319,7 @@ fn pixels(folder: &Path, name: &str) -> impl Fn(usize, usize) -> [u8; 3] {
     let [width, height] = SIZE.map(|size| (size as u32).to_be_bytes());
     assert_eq!(png[16..24], [width, height].concat());
     assert_eq!(&png[png.len() - 8..png.len() - 4], b"IEND");
-    let rows = rows_of(&png);
+    let rows = png::rows_of(&png);
     let row = 1 + 3 * SIZE[0];
     assert_eq!(rows.len(), row * SIZE[1]);
     assert!(rows.iter().step_by(row).all(|&filter| filter == 0));

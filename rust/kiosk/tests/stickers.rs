@@ -1,5 +1,7 @@
 //! Stickers on the command line: what is printed and written, and that bad input gives a clear error and no file.
 
+#[path = "shared/png.rs"]
+mod png;
 mod shared;
 
 use kiosk::{Record, Stickers, TINT_CODES};
@@ -146,21 +148,6 @@ fn in_words(chosen: Stickers) -> String {
     )
 }
 
-/// The rows of a PNG picture whose data are stored, each behind the byte of its filter.
-fn rows_of(png: &[u8]) -> Vec<u8> {
-    let data = png.windows(4).position(|name| name == b"IDAT");
-    let mut rest = &png[data.expect("picture data") + 4 + 2..];
-    let mut rows = Vec::new();
-    loop {
-        let length = usize::from(u16::from_le_bytes([rest[1], rest[2]]));
-        rows.extend(&rest[5..5 + length]);
-        if rest[0] == 1 {
-            return rows;
-        }
-        rest = &rest[5 + length..];
-    }
-}
-
 /// A spool with one frame of 12-bit e-sRGB.
 fn spool(width: u16, height: u16, pixels: &[u8]) -> Vec<u8> {
     let record = Record {
@@ -210,7 +197,7 @@ fn previews_in_the_tints() {
         [0, 0, 0, 0, 255, 255, 255, 255, 1, 0],
         [0, 255, 255, 255, 0, 0, 0, 255, 255, 255],
     ];
-    assert_eq!(rows_of(&png), rows.concat());
+    assert_eq!(png::rows_of(&png), rows.concat());
 }
 
 /// Files of the same tints: numbers in one line, with commas, with comments, and as another system ends its lines.

@@ -10,7 +10,7 @@ use lib.Seq.{drop-length, getD-set-same, getD-set-other}
 use borrow.Author.Tests.{eq-eqb, ne-eqb}
 use Rattle.printer.specs.declared.Arrival.{Arrival}
 use Rattle.printer.specs.Arrivals.{noArrival, printLimit, arrivalLimit}
-use Rattle.printer.specs.Turns.{came}
+use Rattle.printer.specs.Turns.{joined, came}
 use Rattle.printer.specs.HowRun.{Due, AllDue, Ready}
 use Rattle.printer.proofs.Judging.{from-here}
 
@@ -29,11 +29,7 @@ set-most (x ∷ w) (suc i) v most h l zero = h zero
 set-most (x ∷ w) (suc i) v most h l (suc k) = set-most w i v most (λ j. h (suc j)) l k
 
 -- ---- one arrival
--- The prints that wait with those of an arrival.
-abbrev pub with : Arrival → List ℕ → List ℕ
-with a w = set w (a .kiosk) (getD w (a .kiosk) 0 + a .prints)
-
-came-now : (t : ℕ) (a : Arrival) (list : List Arrival) (w : List ℕ) → a .turn ≡ t → came t (a ∷ list) w ≡ came t list (with a w)
+came-now : (t : ℕ) (a : Arrival) (list : List Arrival) (w : List ℕ) → a .turn ≡ t → came t (a ∷ list) w ≡ came t list (joined a w)
 unfolding came
 came-now t a list w e = simp (eq-eqb (a .turn) t e)
 
@@ -72,7 +68,7 @@ module _ (list : List Arrival) (t : ℕ) (old w : List ℕ) (next : ℕ) (c : Co
   pub here-due : Due t here
   here-due = all-due .0
 
-  pub coming-more : here .turn ≡ t → Coming list t old (with here w) (next + 1)
+  pub coming-more : here .turn ≡ t → Coming list t old (joined here w) (next + 1)
   coming-more e =
       record {
         listed = c .listed;

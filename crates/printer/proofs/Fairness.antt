@@ -16,7 +16,7 @@ use Rattle.numbers.specs.Counting.{howMany}
 use Rattle.numbers.proofs.Counting.{count-append}
 use Rattle.printer.specs.declared.Arrival.{Arrival}
 use Rattle.printer.specs.Arrivals.{kioskCount}
-use Rattle.printer.specs.Turns.{came, behind, idle, nextKiosk, Printer, printer, afterPrint, afterTurn, newPrinter, printerAt, waitingIn, turnByte, turnBytes}
+use Rattle.printer.specs.Turns.{joined, came, behind, idle, nextKiosk, Printer, printer, afterPrint, afterTurn, newPrinter, printerAt, waitingIn, turnByte, turnBytes}
 use Rattle.printer.specs.Fairness.{arrived, made, waitingAfter, Waits, Fair}
 use Rattle.printer.specs.HowRun.{Servable}
 use Rattle.printer.proofs.Arriving.{set-here, set-elsewhere}
@@ -36,7 +36,7 @@ length-came : (t : ℕ) (list : List Arrival) (w : List ℕ) → length (came t 
 unfolding came
 length-came t [] w = refl
 length-came t (a ∷ list) w =
-    length-came t list (cond (eqb (a .turn) t) (set w (a .kiosk) (getD w (a .kiosk) 0 + a .prints)) w)
+    length-came t list (cond (eqb (a .turn) t) (joined a w) w)
     ∙ length-by w (a .kiosk) (getD w (a .kiosk) 0 + a .prints) (eqb (a .turn) t)
 
 adds : (w : List ℕ) (k i p rest : ℕ) (now this : Bool) → eqb i k ≡ this → k < length w
@@ -52,7 +52,7 @@ unfolding came arriving
 came-adds t k [] w h = omega arith
 came-adds t k (a ∷ list) w h =
     let more = getD w (a .kiosk) 0 + a .prints in
-    came-adds t k list (cond (eqb (a .turn) t) (set w (a .kiosk) more) w) (rw (length-by w (a .kiosk) more (eqb (a .turn) t)) h)
+    came-adds t k list (cond (eqb (a .turn) t) (joined a w) w) (rw (length-by w (a .kiosk) more (eqb (a .turn) t)) h)
     ∙ adds w k (a .kiosk) (a .prints) (arriving list t k) (eqb (a .turn) t) (eqb (a .kiosk) k) refl h
 
 by-then : (x t p : ℕ) (this before now : Bool) → ltb x t ≡ before → eqb x t ≡ now

@@ -8,11 +8,13 @@ use lib.ListN.{getD, set, replicate}
 use Rattle.printer.specs.declared.Arrival.{Arrival}
 use Rattle.printer.specs.Arrivals.{kioskCount}
 
--- Rule 14.3: what waits once the arrivals of turn t have come.
+-- Rule 14.3: the prints of an arrival join those that wait for its kiosk; and what waits once all arrivals of turn t have come.
+abbrev pub joined : Arrival → List ℕ → List ℕ
+joined a waiting = set waiting (a .kiosk) (getD waiting (a .kiosk) 0 + a .prints)
+
 unfoldable pub came : ℕ → List Arrival → List ℕ → List ℕ
 came t [] waiting = waiting
-came t (a ∷ rest) waiting =
-    came t rest (cond (eqb (a .turn) t) (set waiting (a .kiosk) (getD waiting (a .kiosk) 0 + a .prints)) waiting)
+came t (a ∷ rest) waiting = came t rest (cond (eqb (a .turn) t) (joined a waiting) waiting)
 
 -- Rule 14.4: the kiosk behind kiosk k, going round; and what stands for none.
 abbrev pub behind : ℕ → ℕ

@@ -21,7 +21,8 @@ pub struct Arrival {
 
 const KIOSKS: usize = 8;
 
-// Simulates as many turns as `bytes` has bytes, and writes the kiosk that each serves, or 255 for none.
+// Simulates as many turns as `bytes` has bytes, and writes the kiosk that each serves, or 255 for none. Of `numbers`
+// each three are an arrival: turn, kiosk and prints.
 pub fn simulate(numbers: &[u32], bytes: &mut [u8]) -> Answer
     ensures answer { λ r. ⌜ said r ≡ simulationSays (now (numbers .entry)) (length (now (bytes .entry))) ⌝ }
     ensures bytes { λ r. ⌜ now (bytes .exit) ≡ leaves (simulationSays (now (numbers .entry)) (length (now (bytes .entry)))) (turnBytes (arrivals (now (numbers .entry))) (length (now (bytes .entry)))) (now (bytes .entry)) ⌝ }

@@ -77,44 +77,40 @@ arrived-none (a ∷ list) k = simp (le-ltb (a .turn) 0 (omega arith)) (omega (ar
 
 -- ---- a print that is made
 module _ (w : List ℕ) (first b : ℕ) where
-  abbrev after : Bool → Printer
-  after none = cond {A = Printer} none (printer w first) (printer (set w b (getD w b 0 - 1)) (behind b))
+  abbrev one-made : Printer
+  one-made = printer (set w b (getD w b 0 - 1)) (behind b)
+
+  -- What holds with a print and without one.
+  pub print-holds : (P : Printer → Type 0) → (b ≡ idle → P (printer w first)) → ((b ≡ idle → ⊥) → P one-made) → P (afterPrint w first b)
+  unfolding afterPrint
+  print-holds P none one = by (eqb b idle) refl
+    where
+      by : (x : Bool) → eqb b idle ≡ x → P (cond {A = Printer} x (printer w first) one-made)
+      by true e = none (eqb-true b idle e)
+      by false e = one (eqb-false b idle e)
 
   served-length : length (afterPrint w first b .waiting) ≡ length w
-  unfolding afterPrint
-  served-length = by (eqb b idle)
-    where
-      by : (none : Bool) → length (after none .waiting) ≡ length w
-      by true = refl
-      by false = length-set w b (getD w b 0 - 1)
+  served-length = print-holds (λ p. length (p .waiting) ≡ length w) (λ z. refl) (λ z. length-set w b (getD w b 0 - 1))
 
   pub served-first : first < kioskCount → afterPrint w first b .first < kioskCount
-  unfolding afterPrint
-  served-first h = by (eqb b idle)
-    where
-      by : (none : Bool) → after none .first < kioskCount
-      by true = h
-      by false = omega arith
+  served-first h = print-holds (λ p. p .first < kioskCount) (λ z. h) (λ z. omega arith)
 
-  pub served-kiosk : b < kioskCount → afterPrint w first b ≡ after false
-  unfolding afterPrint
-  served-kiosk h = simp (ne-eqb b idle (λ z. omega arith))
+  pub served-kiosk : b < kioskCount → afterPrint w first b ≡ one-made
+  served-kiosk h = print-holds (λ p. p ≡ one-made) (λ z. absurd (omega arith)) (λ z. refl)
 
   -- It is one print less for its kiosk, and none for the others.
   one-less : (k : ℕ) → k < kioskCount → length w ≡ kioskCount → Servable w b
       → getD (afterPrint w first b .waiting) k 0 + cond (eqb k b) 1 0 ≡ getD w k 0
-  unfolding afterPrint
-  one-less k h l s = by (eqb b idle) refl
+  one-less k h l s =
+      print-holds (λ p. getD (p .waiting) k 0 + cond (eqb k b) 1 0 ≡ getD w k 0)
+      (λ z. simp (ne-eqb k b (λ q. omega arith)) (omega arith))
+      (took (eqb k b) refl)
     where
-      took : (this : Bool) → eqb k b ≡ this → (b ≡ idle → ⊥) → getD (after false .waiting) k 0 + cond this 1 0 ≡ getD w k 0
+      took : (this : Bool) → eqb k b ≡ this → (b ≡ idle → ⊥) → getD (one-made .waiting) k 0 + cond this 1 0 ≡ getD w k 0
       took true e z =
           let q = eqb-true k b e in
           omega (arith, set-here w b k (getD w b 0 - 1) (omega arith) (sym q), ap (λ (x : ℕ). getD w x 0) q, s .waits z)
       took false e z = omega (arith, set-elsewhere w b k (getD w b 0 - 1) (λ q. eqb-false k b e (sym q)))
-
-      by : (none : Bool) → eqb b idle ≡ none → getD (after none .waiting) k 0 + cond (eqb k b) 1 0 ≡ getD w k 0
-      by true e = simp (ne-eqb k b (λ q. omega (arith, eqb-true b idle e))) (omega arith)
-      by false e = took (eqb k b) refl (eqb-false b idle e)
 
 -- ---- the printer as each turn finds it
 pub record Sound (p : Printer) : Type 0 where
@@ -234,8 +230,8 @@ byte-at list t (suc n) d h =
 
 -- ---- what is promised
 module _ (list : List Arrival) (out : List ℕ) (n : ℕ) (e : out ≡ turnBytes list n) where
-  played : length out ≡ n
-  played = ap length e ∙ length-bytes list n
+  as-long : length out ≡ n
+  as-long = ap length e ∙ length-bytes list n
 
   made-before : (t k : ℕ) → t ≤ n → made k (take t out) ≡ made k (turnBytes list t)
   made-before t k h = ap (made k) (ap (take t) e ∙ take-bytes list t n h)
@@ -258,9 +254,9 @@ module _ (list : List Arrival) (out : List ℕ) (n : ℕ) (e : out ≡ turnBytes
   pub fair : Fair list out
   fair =
       record {
-        conserved = λ t k h l. omega (arith, made-before t k (omega (arith, played)), kept list t k l);
+        conserved = λ t k h l. omega (arith, made-before t k (omega (arith, as-long)), kept list t k l);
         soon = λ t k h l w.
-            let s = served-soon list kioskCount t k l (omega arith) (waits-then t k (omega (arith, played)) l w) in
-            record { later = s .later; soon = omega (arith, s .soon); byte = wrote (t + s .later) idle (omega (arith, played, s .soon)) ∙ s .byte };
-        unused = λ t k h l i w. never-unused t k (omega (arith, played)) l i w;
+            let s = served-soon list kioskCount t k l (omega arith) (waits-then t k (omega (arith, as-long)) l w) in
+            record { later = s .later; soon = omega (arith, s .soon); byte = wrote (t + s .later) idle (omega (arith, as-long, s .soon)) ∙ s .byte };
+        unused = λ t k h l i w. never-unused t k (omega (arith, as-long)) l i w;
       }

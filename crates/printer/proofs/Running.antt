@@ -2,30 +2,25 @@
 -- Assumes nothing.
 use Prim.Native.Nat.{ℕ, suc, _+_, _-_, _≤_, _<_}
 use mathlib.Core.Path.{_≡_, refl, sym, ap, _∙_}
-use mathlib.Core.Bool.{Bool, true, false, cond}
 use mathlib.Core.List.{List, _∷_, [], _++_, append-assoc, append-nil}
 use native.Mathlib.Numerals.{add-one}
 use native.Mathlib.Omega.{arith}
-use lib.Dec.{eqb}
 use lib.ListN.{length, getD, set, drop, replicate, length-set}
 use lib.Seq.{drop-cons, drop-length, set-at}
 use Rattle.refusal.specs.Answers.{accepted}
 use Rattle.printer.specs.declared.Arrival.{Arrival}
 use Rattle.printer.specs.Arrivals.{arrivals, kioskCount, simulationSays}
-use Rattle.printer.specs.Turns.{came, behind, idle, nextKiosk, Printer, printer, afterPrint, afterTurn, newPrinter, printerAt, turnByte, turnBytes}
+use Rattle.printer.specs.Turns.{came, nextKiosk, Printer, printer, afterPrint, afterTurn, newPrinter, printerAt, turnByte, turnBytes}
 use Rattle.printer.specs.HowRun.{Ready}
 use Rattle.printer.proofs.Judging.{simulation-accepted}
 use Rattle.printer.proofs.Arriving.{set-most}
-use Rattle.printer.proofs.Fairness.{served-first, no-prints, length-bytes}
+use Rattle.printer.proofs.Fairness.{print-holds, served-first, no-prints, length-bytes}
 
 -- ---- one turn
 served-few : (w : List ℕ) (first b most : ℕ) → ((k : ℕ) → getD w k 0 ≤ most) → (k : ℕ) → getD (afterPrint w first b .waiting) k 0 ≤ most
-unfolding afterPrint
-served-few w first b most h = by (eqb b idle)
-  where
-    by : (none : Bool) (k : ℕ) → getD ((cond {A = Printer} none (printer w first) (printer (set w b (getD w b 0 - 1)) (behind b))) .waiting) k 0 ≤ most
-    by true = h
-    by false = set-most w b (getD w b 0 - 1) most h (omega (arith, h b))
+served-few w first b most h =
+    print-holds w first b (λ p. (k : ℕ) → getD (p .waiting) k 0 ≤ most) (λ z. h)
+    (λ z. set-most w b (getD w b 0 - 1) most h (omega (arith, h b)))
 
 module _ (list : List Arrival) (t : ℕ) (before w left : List ℕ) (first b after next : ℕ) where
   pub turn-taken :

@@ -8,7 +8,7 @@ use mathlib.Core.Logic.{⊎-elim}
 use native.Mathlib.Nat.{le-refl, le-trans, eq-or-lt-of-le}
 use native.Mathlib.Numerals.{add-one}
 use native.Mathlib.Omega.{arith}
-use borrow.Author.Tests.{lt-ltb, le-ltb, ltb-true, ltb-false}
+use borrow.Author.Tests.{ltb-true, ltb-false}
 use lib.Dec.{ltb}
 use lib.ListN.{length, getD, drop, drop-of-length-le}
 use lib.Seq.{drop-cons}
@@ -23,21 +23,24 @@ use Rattle.stickers.specs.HowSummed.{AllCodes, CodePixel}
 
 module _ (tints : List ℕ) (p : Pixel) where
   -- ---- two tints
-  pub winner-later : (x y : ℕ) → away tints p y < away tints p x → y ≡ winner tints p x y
-  unfolding winner
-  winner-later x y h = rw (lt-ltb (away tints p y) (away tints p x) h) refl
+  -- Which of them the winner is, by what decides.
+  winner-by :
+      (P : ℕ → Type 0) (x y : ℕ) (nearer : Bool) → ltb (away tints p y) (away tints p x) ≡ nearer
+      → (away tints p y < away tints p x → P y) → (away tints p x ≤ away tints p y → P x) → P (cond nearer y x)
+  winner-by P x y true n later earlier = later (ltb-true _ _ n)
+  winner-by P x y false n later earlier = earlier (ltb-false _ _ n)
 
-  pub winner-earlier : (x y : ℕ) → away tints p x ≤ away tints p y → x ≡ winner tints p x y
+  pub winner-is :
+      (P : ℕ → Type 0) (x y : ℕ) → (away tints p y < away tints p x → P y) → (away tints p x ≤ away tints p y → P x) → P (winner tints p x y)
   unfolding winner
-  winner-earlier x y h = rw (le-ltb (away tints p y) (away tints p x) h) refl
+  winner-is P x y later earlier = winner-by P x y _ refl later earlier
 
-  winner-by : (x y : ℕ) (b : Bool) → ltb (away tints p y) (away tints p x) ≡ b → away tints p (cond b y x) ≡ min (away tints p x) (away tints p y)
-  winner-by x y true e = omega (arith, ltb-true (away tints p y) (away tints p x) e)
-  winner-by x y false e = omega (arith, ltb-false (away tints p y) (away tints p x) e)
+  pub winner-both : (P : ℕ → Type 0) (x y : ℕ) → P x → P y → P (winner tints p x y)
+  winner-both P x y hx hy = winner-is P x y (λ h. hy) (λ h. hx)
 
   winner-least : (x y : ℕ) → away tints p (winner tints p x y) ≡ min (away tints p x) (away tints p y)
-  unfolding winner
-  winner-least x y = winner-by x y _ refl
+  winner-least x y =
+      winner-is (λ t. away tints p t ≡ min (away tints p x) (away tints p y)) x y (λ h. omega arith) (λ h. omega arith)
 
   -- ---- a set of tints
   pub nearest-least : (x : ℕ) (ys : List ℕ) → away tints p (nearest tints p x ys) ≡ leastOf tints p (away tints p x) ys

@@ -1,5 +1,5 @@
--- How the code goes about the sums of all choices: in blocks of pixels, with a row of distances for each tint, and from choice to choice.
--- The proofs show that this comes to the sums of Choices.
+-- How the code goes about the sums of all choices: in blocks of pixels, with a row of distances for each tint, and from choice to choice;
+-- and about the tint of a pixel: by rank. The proofs show that this comes to the sums and the tints of Choices.
 -- Assumes nothing.
 use Prim.Native.Nat.{ℕ, zero, suc, _+_, _-_, _*_, _≤_, _<_, min}
 use mathlib.Core.Path.{_≡_}
@@ -88,3 +88,7 @@ SumsOf sum limit sums = (k : ℕ) → k < limit → getD sums k 0 ≡ sum (getD 
 pub record BestOf (sum : Four → ℕ) (limit : ℕ) (r : Summed) : Type 0 where
   pub four : r .four ≡ best sum (lookedAt limit)
   pub summed : r .sum ≡ sum (r .four)
+
+-- What is compared to find a pixel's tint: the distance of tint t and, behind it, its number. The least is that of the tint taken.
+unfoldable pub rank : List ℕ → Pixel → ℕ → ℕ
+rank tints p t = tintCount * away tints p t + t

@@ -15,11 +15,11 @@ ghost use lib.Dec.{ltb};
 ghost use lib.ListN.{length, getD, drop};
 ghost use Rattle.refusal.specs.Answers.{Said, said, refusedAt, leaves};
 ghost use Rattle.samples.specs.Samples.{twoByTwo};
-ghost use Rattle.stickers.specs.Distances.{apart, away, winner, summed};
+ghost use Rattle.stickers.specs.Distances.{apart, away, summed};
 ghost use Rattle.stickers.specs.Choices.{tintCount, tintCodes, four, choices, tintOf, sumOf, leastOfAll, sumOfAll, choiceOf};
 ghost use Rattle.stickers.specs.Stickers.{pictureSays, tintsSay, mostPixels, workSays, requestSays, pictureOf, chosenSaid, stickersSays, stickers};
 ghost use Rattle.stickers.specs.Promise.{Ascending, Promised};
-ghost use Rattle.stickers.specs.HowSummed.{AllCodes, TintCodes, CodePixel, after, blockSize, entryCount, mostEntry, rowOf, Column, BlockOf, rowSum, fourSum, Added, SumsOf, BestOf};
+ghost use Rattle.stickers.specs.HowSummed.{AllCodes, TintCodes, CodePixel, after, blockSize, entryCount, mostEntry, rowOf, Column, BlockOf, rowSum, fourSum, Added, SumsOf, BestOf, rank};
 
 // Four tints by number, ascending.
 pub struct Four {
@@ -393,17 +393,25 @@ fn search(src: &[u8], tints: &[u16; TINT_CODES], limit: usize) -> Choice
 }
 
 // ---- the tints of the pixels
+//
+// A pixel takes the tint with the least rank, which no two tints have in common. Ranks are compared without a
+// branch, and the rank that is left tells the tint.
 
-// Which of tints x and y a pixel takes, where x has the lower number.
-fn winner_of(tints: &[u16; TINT_CODES], pixel: Pixel, x: u8, y: u8) -> u8
-    requires { ⌜ TintCodes (now tints) × CodePixel pixel × (x < tintCount) × (y < tintCount) ⌝ }
-    ensures { λ r. ⌜ (r ≡ winner (now (tints .entry)) pixel x y) × (r < tintCount) ⌝ }
+// The ranks of a distance: one for each tint.
+const RANKS: u32 = 16;
+
+// The rank of tint t for a pixel.
+fn rank_of(tints: &[u16; TINT_CODES], pixel: Pixel, t: u8) -> u32
+    requires { ⌜ TintCodes (now tints) × CodePixel pixel × (t < tintCount) ⌝ }
+    ensures { λ r. ⌜ r ≡ rank (now (tints .entry)) pixel t ⌝ }
 {
-    if distance_to(tints, pixel, y as usize) < distance_to(tints, pixel, x as usize) {
-        y
-    } else {
-        x
-    }
+    RANKS * (distance_to(tints, pixel, t as usize) as u32) + (t as u32)
+}
+
+fn lower(x: u32, y: u32) -> u32
+    ensures { λ r. ⌜ r ≡ min x y ⌝ }
+{
+    if x < y { x } else { y }
 }
 
 // The tint that a pixel takes of the four.
@@ -411,9 +419,11 @@ fn tint_of(tints: &[u16; TINT_CODES], pixel: Pixel, choice: Four) -> u8
     requires { ⌜ TintCodes (now tints) × CodePixel pixel × Ascending choice ⌝ }
     ensures { λ r. ⌜ r ≡ tintOf (now (tints .entry)) choice pixel ⌝ }
 {
-    let two = winner_of(tints, pixel, choice.first, choice.second);
-    let three = winner_of(tints, pixel, two, choice.third);
-    winner_of(tints, pixel, three, choice.fourth)
+    let first = rank_of(tints, pixel, choice.first);
+    let two = lower(first, rank_of(tints, pixel, choice.second));
+    let three = lower(two, rank_of(tints, pixel, choice.third));
+    let four = lower(three, rank_of(tints, pixel, choice.fourth));
+    (four % RANKS) as u8
 }
 
 // Writes the tint of each pixel.

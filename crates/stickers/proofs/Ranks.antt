@@ -1,0 +1,47 @@
+-- The least rank of four tints is that of the tint that the pixel takes, and tells its number.
+-- Assumes nothing.
+use Prim.Native.Nat.{ℕ, _%_, _<_, min}
+use mathlib.Core.Path.{_≡_, ap, _∙_}
+use mathlib.Core.List.{List}
+use native.Mathlib.Omega.{arith}
+use Rattle.samples.specs.declared.Pixel.{Pixel}
+use Rattle.stickers.specs.declared.Four.{Four}
+use Rattle.stickers.specs.Distances.{winner, nearest}
+use Rattle.stickers.specs.Choices.{tintCount, tintOf}
+use Rattle.stickers.specs.Promise.{Ascending}
+use Rattle.stickers.specs.HowSummed.{rank}
+use Rattle.stickers.proofs.Nearest.{winner-is, winner-both}
+
+module _ (tints : List ℕ) (p : Pixel) where
+  winner-rank : (x y : ℕ) → x < y → y < tintCount → rank tints p (winner tints p x y) ≡ min (rank tints p x) (rank tints p y)
+  unfolding rank
+  winner-rank x y h l =
+      winner-is tints p (λ t. rank tints p t ≡ min (rank tints p x) (rank tints p y)) x y (λ n. omega arith) (λ n. omega arith)
+
+  -- Of ranks that are those of a set's first tints, and of a tint with a higher number.
+  ranked-more :
+      (x y r s m : ℕ) → x < y → y < tintCount → r ≡ rank tints p x → s ≡ rank tints p y → m ≡ min r s → m ≡ rank tints p (winner tints p x y)
+  ranked-more x y r s m h l is-x is-y least = omega (arith, winner-rank x y h l)
+
+  number-of-rank : (t : ℕ) → t < tintCount → rank tints p t % tintCount ≡ t
+  unfolding rank
+  number-of-rank t h = omega arith
+
+module _ (tints : List ℕ) (p : Pixel) (f : Four) (h : Ascending f) where
+  -- Ranks of the four one after another, the least of those up to each, and what the last leaves.
+  pub ranked :
+      (a b c d two three four t : ℕ)
+      → a ≡ rank tints p (f .first) → b ≡ rank tints p (f .second) → c ≡ rank tints p (f .third) → d ≡ rank tints p (f .fourth)
+      → two ≡ min a b → three ≡ min two c → four ≡ min three d → t ≡ four % tintCount → t ≡ tintOf tints f p
+  unfolding nearest
+  ranked a b c d two three four t is-a is-b is-c is-d is-two is-three is-four is =
+      let x = winner tints p (f .first) (f .second) in
+      let y = winner tints p x (f .third) in
+      let z = winner tints p y (f .fourth) in
+      let low : x < f .third = winner-both tints p (λ n. n < f .third) (f .first) (f .second) (omega (arith, h .low, h .middle)) (h .middle) in
+      let middle : y < f .fourth = winner-both tints p (λ n. n < f .fourth) x (f .third) (omega (arith, h .high)) (h .high) in
+      let there : z < tintCount = winner-both tints p (λ n. n < tintCount) y (f .fourth) (omega (arith, h .there)) (h .there) in
+      let first = ranked-more tints p (f .first) (f .second) a b two (h .low) (omega (arith, h .middle, h .high, h .there)) is-a is-b is-two in
+      let second = ranked-more tints p x (f .third) two c three low (omega (arith, h .high, h .there)) first is-c is-three in
+      let third = ranked-more tints p y (f .fourth) three d four middle (h .there) second is-d is-four in
+      is ∙ ap (λ n. n % tintCount) third ∙ number-of-rank tints p z there

@@ -1,6 +1,6 @@
 -- The nearest tint is at the least distance, no four tints are nearer than all, and sums pixel by pixel.
 -- Assumes nothing.
-use Prim.Native.Nat.{ℕ, zero, suc, _+_, _-_, _≤_, _<_, min}
+use Prim.Native.Nat.{ℕ, zero, suc, _+_, _-_, _*_, _≤_, _<_, min}
 use mathlib.Core.Path.{_≡_, refl, ap, _∙_}
 use mathlib.Core.Bool.{Bool, true, false, cond}
 use mathlib.Core.List.{List, [], _∷_}
@@ -16,10 +16,10 @@ use Rattle.samples.specs.declared.Pixel.{Pixel}
 use Rattle.samples.specs.Samples.{noPixel, pixelsOf}
 use Rattle.esrgb.specs.Depths.{greatest}
 use Rattle.stickers.specs.declared.Four.{Four}
-use Rattle.stickers.specs.Distances.{apart, away, winner, nearest, leastOf, summed}
+use Rattle.stickers.specs.Distances.{tint, apart, away, winner, nearest, leastOf, summed}
 use Rattle.stickers.specs.Choices.{tintCount, upward, from, leastOfFour, sumOf, leastOfAll, sumOfAll}
 use Rattle.stickers.specs.Promise.{Ascending}
-use Rattle.stickers.specs.HowSummed.{AllCodes, CodePixel}
+use Rattle.stickers.specs.HowSummed.{AllCodes, TintCodes, CodePixel}
 
 module _ (tints : List ℕ) (p : Pixel) where
   -- ---- two tints
@@ -116,6 +116,9 @@ pixel-codes (a ∷ []) h i = omega arith
 pixel-codes (a ∷ b ∷ []) h i = omega arith
 pixel-codes (a ∷ b ∷ c ∷ rest) h zero = (h 0, h 1, h 2)
 pixel-codes (a ∷ b ∷ c ∷ rest) h (suc i) = pixel-codes rest (λ k. h (suc (suc (suc k)))) i
+
+pub tint-codes : (tints : List ℕ) → TintCodes tints → (t : ℕ) → t < tintCount → CodePixel (tint tints t)
+tint-codes tints h t l = (h (3 * t) (omega arith), h (3 * t + 1) (omega arith), h (3 * t + 2) (omega arith))
 
 pub apart-small : (x y : ℕ) → x ≤ greatest 12 → y ≤ greatest 12 → apart x y ≤ greatest 12
 apart-small x y h l = omega arith

@@ -15,7 +15,7 @@ ghost use lib.Dec.{ltb};
 ghost use lib.ListN.{length, getD, drop};
 ghost use Rattle.refusal.specs.Answers.{Said, said, refusedAt, leaves};
 ghost use Rattle.samples.specs.Samples.{twoByTwo};
-ghost use Rattle.stickers.specs.Distances.{apart, away, summed};
+ghost use Rattle.stickers.specs.Distances.{tint, apart, away, summed};
 ghost use Rattle.stickers.specs.Choices.{tintCount, tintCodes, four, choices, tintOf, sumOf, leastOfAll, sumOfAll, choiceOf};
 ghost use Rattle.stickers.specs.Stickers.{pictureSays, tintsSay, mostPixels, workSays, requestSays, pictureOf, chosenSaid, stickersSays, stickers};
 ghost use Rattle.stickers.specs.Promise.{Ascending, Promised};
@@ -149,14 +149,27 @@ fn difference(x: u16, y: u16) -> u16
     if x < y { y - x } else { x - y }
 }
 
+// Tint t as a pixel.
+fn tint_at(tints: &[u16; TINT_CODES], t: usize) -> Pixel
+    requires { ⌜ t < tintCount ⌝ }
+    ensures { λ r. ⌜ r ≡ tint (now (tints .entry)) t ⌝ }
+{
+    Pixel {
+        first: tints[3 * t],
+        second: tints[3 * t + 1],
+        third: tints[3 * t + 2],
+    }
+}
+
 // The distance of a pixel to tint t.
 fn distance_to(tints: &[u16; TINT_CODES], pixel: Pixel, t: usize) -> u16
     requires { ⌜ TintCodes (now tints) × CodePixel pixel × (t < tintCount) ⌝ }
     ensures { λ r. ⌜ r ≡ away (now (tints .entry)) pixel t ⌝ }
 {
-    difference(pixel.first, tints[3 * t])
-        + difference(pixel.second, tints[3 * t + 1])
-        + difference(pixel.third, tints[3 * t + 2])
+    let tint = tint_at(tints, t);
+    difference(pixel.first, tint.first)
+        + difference(pixel.second, tint.second)
+        + difference(pixel.third, tint.third)
 }
 
 fn lesser(x: u16, y: u16) -> u16

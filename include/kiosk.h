@@ -188,7 +188,8 @@ int64_t kiosk_tint_light(double red, double green, double blue, uint16_t pixel[3
 
 /* ---- Stickers (rule 13): four tints out of 16 for a picture of 12-bit e-sRGB, and the one of the four that each
  * pixel gets. Pixel and tint are apart by the differences of their codes in the three channels, summed. A pixel gets
- * the nearest tint, of those as near the one with the lowest number. ---- */
+ * the nearest tint; of those as near the one with the smallest luma, which is that of kiosk_to_luma_chroma; and of
+ * those whose luma is the same too, the one with the lowest number. ---- */
 
 /* The codes of 16 tints: red, green and blue of tint 0, then of tint 1, and so on. Tints may be equal. */
 #define KIOSK_TINT_CODES 48

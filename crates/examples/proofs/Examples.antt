@@ -10,14 +10,14 @@ use Rattle.esycc.specs.Sycc.{halfMore, chromaByte}
 use Rattle.transfer.proofs.Examples.{light-examples, sixteen-examples, code-examples}
 use Rattle.tint.proofs.Examples as tints
 use Rattle.stickers.specs.Distances as distances
-use Rattle.stickers.specs.Distances.{away, winner, leastOf, summed}
+use Rattle.stickers.specs.Distances.{away, tintLuma, winner, leastOf, summed}
 use Rattle.stickers.specs.Choices.{upward, forEach, choices, bestFrom, best, chosen, choiceOf}
 use Rattle.printer.specs.Arrivals.{arrivals, keepsLimits, arrivalsSay, simulationSays}
 use Rattle.printer.specs.Turns.{came, nextFrom, afterPrint, afterTurn, newPrinter, printerAt, turnByte, turnBytes}
 use Rattle.examples.specs.Examples.{AllHold, done, _&_, examples}
 
 pub all-hold : AllHold examples
-unfolding nearest nearestDown fromSrgb toSrgb changeDepth luma chroma blueChroma redChroma clippedTo redBack greenBack blueBack esycc.code esycc.luma esycc.chroma esycc.adding esycc.taking halfMore chromaByte away winner distances.nearest leastOf summed upward forEach choices bestFrom best chosen choiceOf arrivals keepsLimits arrivalsSay simulationSays came nextFrom afterPrint afterTurn newPrinter printerAt turnByte turnBytes
+unfolding nearest nearestDown fromSrgb toSrgb changeDepth luma chroma blueChroma redChroma clippedTo redBack greenBack blueBack esycc.code esycc.luma esycc.chroma esycc.adding esycc.taking halfMore chromaByte away tintLuma winner distances.nearest leastOf summed upward forEach choices bestFrom best chosen choiceOf arrivals keepsLimits arrivalsSay simulationSays came nextFrom afterPrint afterTurn newPrinter printerAt turnByte turnBytes
 all-hold =
     refl & refl & refl & refl & refl & refl & refl & refl & refl & refl & refl
     & light-examples .0 & light-examples .1 & light-examples .2 & light-examples .3 & light-examples .4
@@ -30,6 +30,6 @@ all-hold =
     & refl & refl & refl & refl & refl & refl & refl & refl & refl & refl & refl & refl & refl & refl & refl
     & refl & refl & refl & refl & refl & refl & refl & refl & refl & refl & refl & refl & refl & refl & refl
     & refl & refl & refl & refl & refl & refl & refl & refl & refl & refl & refl & refl & refl & refl
-    & refl & refl & refl & refl & refl & refl & refl & refl & refl & refl & refl & refl
+    & refl & refl & refl & refl & refl & refl & refl & refl & refl & refl & refl & refl & refl & refl
     & refl & refl & refl & refl & refl & refl & refl & refl & refl & refl & refl
     & done

@@ -76,6 +76,17 @@ tintsWith second =
 abbrev pub threePixels : List Pixel
 threePixels = pixel 10 0 0 ∷ pixel 0 20 0 ∷ pixel 0 0 0 ∷ []
 
+-- Rule 10.10, ties: 16 tints of which the first four are not white, and three pixels. The first is as near to tint 0 as to tint 1, and the
+-- second to tint 2 as to tint 3.
+abbrev pub tiedTints : List ℕ
+tiedTints =
+    samplesIn
+    (pixel 0 0 2 ∷ pixel 0 0 0 ∷ pixel 10 10 10 ∷ pixel 0 0 40 ∷ white ∷ white ∷ white ∷ white
+    ∷ white ∷ white ∷ white ∷ white ∷ white ∷ white ∷ white ∷ white ∷ [])
+
+abbrev pub tiedPixels : List Pixel
+tiedPixels = pixel 0 0 1 ∷ pixel 5 5 25 ∷ pixel 10 10 10 ∷ []
+
 abbrev pub answer : Four → ℕ → ℕ → ℕ → Choice
 answer f sum looked least = record { four = f; sum = sum; looked = looked; least = least }
 
@@ -204,6 +215,8 @@ examples =
     ∷ bytesFor (tintsWith white) threePixels 40 (5 ∷ 9 ∷ 5 ∷ [])
     ∷ choiceFor (tintsWith (pixel 10 0 0)) threePixels 3 (answer (four 0 1 2 3) 40 3 10)
     ∷ bytesFor (tintsWith (pixel 10 0 0)) threePixels 3 (2 ∷ 2 ∷ 2 ∷ [])
+    ∷ choiceFor tiedTints tiedPixels 1 (answer (four 0 1 2 3) 26 1 26)
+    ∷ bytesFor tiedTints tiedPixels 1 (0 ∷ 3 ∷ 2 ∷ [])
     ∷ choiceFor (tintsWith white) [] 7 (answer (four 0 1 2 3) 0 7 0)
     ∷ choiceFor (tintsWith white) [] 1821 (answer (four 0 1 2 3) 0 1820 0)
     -- Rule 10.11.

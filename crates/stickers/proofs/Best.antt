@@ -1,7 +1,7 @@
 -- The earliest choice with the smallest sum: how the search finds it, and what is promised of it.
 -- Assumes nothing.
 use Prim.Native.Nat.{ℕ, zero, suc, _+_, _-_, _≤_, _<_, min}
-use mathlib.Core.Path.{_≡_, refl, sym, ap, subst, _∙_}
+use mathlib.Core.Path.{_≡_, refl, sym, ap, subst, _∙_, fun-ext}
 use mathlib.Core.Bool.{Bool, true, false, cond}
 use mathlib.Core.List.{List, [], _∷_}
 use native.Mathlib.Nat.{le-refl}
@@ -15,11 +15,12 @@ use Rattle.samples.specs.declared.Pixel.{Pixel}
 use Rattle.stickers.specs.declared.Four.{Four}
 use Rattle.stickers.specs.declared.Summed.{Summed}
 use Rattle.stickers.specs.declared.Choice.{Choice}
+use Rattle.stickers.specs.Distances.{summed}
 use Rattle.stickers.specs.Choices.{choices, firstChoice, others, sumOf, sumOfAll, bestFrom, best, allowed, lookedAt, chosen, choiceOf}
-use Rattle.stickers.specs.Promise.{Ascending, Earliest, Promised}
+use Rattle.stickers.specs.Promise.{Ascending, Earliest, sumBy, TakesNearest, Promised}
 use Rattle.stickers.specs.HowSummed.{BestOf}
 use Rattle.stickers.proofs.InOrder.{starts, ascending-at, every-listed}
-use Rattle.stickers.proofs.Nearest.{nearest-least, sum-above}
+use Rattle.stickers.proofs.Nearest.{nearest-least, nearest-takes, sum-above}
 
 -- ---- the choices that are looked at
 looked-length : (limit : ℕ) → limit ≤ length choices → length (lookedAt limit) ≡ limit
@@ -195,6 +196,14 @@ module _ (tints : List ℕ) (ps : List Pixel) (budget : ℕ) (some : 0 < budget)
       let e : getD (lookedAt budget) (l .place) firstChoice ≡ f = ap (λ fs. getD fs (l .place) firstChoice) all ∙ l .is in
       omega (arith, chosen-earliest .least (l .place) (omega (arith, ap length all, l .within)), ap (sumOf tints ps) e)
 
+  -- Sums are of distances alone, so that a rule for ties is not seen in them.
+  ties-sum : (rule : Four → Pixel → ℕ) → TakesNearest tints rule → sumOf tints ps ≡ sumBy tints rule ps
+  ties-sum rule h = fun-ext (λ f. ap (λ of. summed of ps) (fun-ext (λ p. sym (h f p))))
+
+  ties-choice : (rule : Four → Pixel → ℕ) → TakesNearest tints rule → chosen tints ps budget ≡ best (sumBy tints rule ps) (lookedAt budget)
+  unfolding chosen
+  ties-choice rule h = ap (λ sum. best sum (lookedAt budget)) (ties-sum rule h)
+
   pub choice-promised : Promised tints ps budget (choiceOf tints ps budget)
   unfolding choiceOf
   choice-promised =
@@ -202,6 +211,8 @@ module _ (tints : List ℕ) (ps : List Pixel) (budget : ℕ) (some : 0 < budget)
         earliest = chosen-earliest;
         sum = refl;
         nearest = λ p. nearest-least tints p (chosen tints ps budget .first) (others (chosen tints ps budget));
+        takes = λ p. nearest-takes tints p (chosen tints ps budget) chosen-ascends;
+        ties = λ rule h. (ties-choice rule h, ap (λ sum. sum (chosen tints ps budget)) (ties-sum rule h));
         bound = λ f a. sum-above tints f a ps;
         best = chosen-best;
       }

@@ -30,7 +30,7 @@ pub starts-are :
     (rows : List ℕ) (a b c d a′ b′ c′ d′ count r : ℕ) → a ≡ a′ → b ≡ b′ → c ≡ c′ → d ≡ d′ → r ≡ rowSum rows a b c d count → r ≡ rowSum rows a′ b′ c′ d′ count
 starts-are rows a b c d a′ b′ c′ d′ count r e f g h is = cc
 
-last-or-before : (j k : ℕ) → j < k + 1 → (j ≡ k) ⊎ (j < k)
+pub last-or-before : (j k : ℕ) → j < k + 1 → (j ≡ k) ⊎ (j < k)
 last-or-before j k h = eq-or-lt-of-le (omega arith)
 
 -- ---- a column: the distances to the first t tints are there

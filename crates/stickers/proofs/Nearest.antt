@@ -1,52 +1,125 @@
--- The nearest tint is at the least distance, no four tints are nearer than all, and sums pixel by pixel.
+-- The tint that a pixel takes is at the least distance and comes before the others, no four tints are nearer than all, and sums pixel by pixel.
 -- Assumes nothing.
 use Prim.Native.Nat.{ℕ, zero, suc, _+_, _-_, _*_, _≤_, _<_, min}
-use mathlib.Core.Path.{_≡_, refl, ap, _∙_}
+use mathlib.Core.Path.{_≡_, refl, sym, ap, _∙_}
 use mathlib.Core.Bool.{Bool, true, false, cond}
 use mathlib.Core.List.{List, [], _∷_}
-use mathlib.Core.Logic.{⊎-elim}
+use mathlib.Core.Logic.{_⊎_, inl, inr, ⊎-elim}
 use native.Mathlib.Nat.{le-refl, le-trans, eq-or-lt-of-le}
 use native.Mathlib.Numerals.{add-one}
 use native.Mathlib.Omega.{arith}
-use borrow.Author.Tests.{ltb-true, ltb-false}
-use lib.Dec.{ltb}
+use borrow.Author.Tests.{eqb-true, eqb-false, ltb-true, ltb-false}
+use lib.Dec.{eqb, ltb}
 use lib.ListN.{length, getD, drop, drop-of-length-le}
 use lib.Seq.{drop-cons}
 use Rattle.samples.specs.declared.Pixel.{Pixel}
 use Rattle.samples.specs.Samples.{noPixel, pixelsOf}
 use Rattle.esrgb.specs.Depths.{greatest}
 use Rattle.stickers.specs.declared.Four.{Four}
-use Rattle.stickers.specs.Distances.{tint, apart, away, winner, nearest, leastOf, summed}
-use Rattle.stickers.specs.Choices.{tintCount, upward, from, leastOfFour, sumOf, leastOfAll, sumOfAll}
-use Rattle.stickers.specs.Promise.{Ascending}
+use Rattle.stickers.specs.Distances.{tint, apart, away, tintLuma, winner, nearest, leastOf, summed}
+use Rattle.stickers.specs.Choices.{tintCount, upward, from, tintOf, leastOfFour, sumOf, leastOfAll, sumOfAll}
+use Rattle.stickers.specs.Promise.{Ascending, Before, Takes}
 use Rattle.stickers.specs.HowSummed.{AllCodes, TintCodes, CodePixel}
 
 module _ (tints : List ℕ) (p : Pixel) where
   -- ---- two tints
   -- Which of them the winner is, by what decides.
   winner-by :
-      (P : ℕ → Type 0) (x y : ℕ) (nearer : Bool) → ltb (away tints p y) (away tints p x) ≡ nearer
-      → (away tints p y < away tints p x → P y) → (away tints p x ≤ away tints p y → P x) → P (cond nearer y x)
-  winner-by P x y true n later earlier = later (ltb-true _ _ n)
-  winner-by P x y false n later earlier = earlier (ltb-false _ _ n)
+      (P : ℕ → Type 0) (x y : ℕ) (as-near darker nearer : Bool)
+      → eqb (away tints p y) (away tints p x) ≡ as-near → ltb (tintLuma tints y) (tintLuma tints x) ≡ darker → ltb (away tints p y) (away tints p x) ≡ nearer
+      → (away tints p y < away tints p x → P y)
+      → (away tints p y ≡ away tints p x → tintLuma tints y < tintLuma tints x → P y)
+      → (away tints p y ≡ away tints p x → tintLuma tints x ≤ tintLuma tints y → P x)
+      → (away tints p x < away tints p y → P x)
+      → P (cond (cond as-near darker nearer) y x)
+  winner-by P x y true true nearer e d n later-near later-dark first-dark first-near = later-dark (eqb-true _ _ e) (ltb-true _ _ d)
+  winner-by P x y true false nearer e d n later-near later-dark first-dark first-near = first-dark (eqb-true _ _ e) (ltb-false _ _ d)
+  winner-by P x y false darker true e d n later-near later-dark first-dark first-near = later-near (ltb-true _ _ n)
+  winner-by P x y false darker false e d n later-near later-dark first-dark first-near =
+      first-near (omega (arith, ltb-false (away tints p y) (away tints p x) n, eqb-false (away tints p y) (away tints p x) e))
 
   pub winner-is :
-      (P : ℕ → Type 0) (x y : ℕ) → (away tints p y < away tints p x → P y) → (away tints p x ≤ away tints p y → P x) → P (winner tints p x y)
+      (P : ℕ → Type 0) (x y : ℕ)
+      → (away tints p y < away tints p x → P y)
+      → (away tints p y ≡ away tints p x → tintLuma tints y < tintLuma tints x → P y)
+      → (away tints p y ≡ away tints p x → tintLuma tints x ≤ tintLuma tints y → P x)
+      → (away tints p x < away tints p y → P x)
+      → P (winner tints p x y)
   unfolding winner
-  winner-is P x y later earlier = winner-by P x y _ refl later earlier
+  winner-is P x y later-near later-dark first-dark first-near = winner-by P x y _ _ _ refl refl refl later-near later-dark first-dark first-near
 
   pub winner-both : (P : ℕ → Type 0) (x y : ℕ) → P x → P y → P (winner tints p x y)
-  winner-both P x y hx hy = winner-is P x y (λ h. hy) (λ h. hx)
+  winner-both P x y hx hy = winner-is P x y (λ n. hy) (λ e d. hy) (λ e d. hx) (λ n. hx)
 
   winner-least : (x y : ℕ) → away tints p (winner tints p x y) ≡ min (away tints p x) (away tints p y)
   winner-least x y =
-      winner-is (λ t. away tints p t ≡ min (away tints p x) (away tints p y)) x y (λ h. omega arith) (λ h. omega arith)
+      winner-is (λ t. away tints p t ≡ min (away tints p x) (away tints p y)) x y (λ n. omega arith) (λ e d. omega arith) (λ e d. omega arith) (λ n. omega arith)
+
+  -- ---- which tint is taken before which
+  nearer-before : (t u : ℕ) → away tints p t < away tints p u → Before tints p t u
+  nearer-before t u h = record { near = omega arith; dark = λ e. absurd (omega arith); low = λ e l. absurd (omega arith) }
+
+  darker-before : (t u : ℕ) → away tints p t ≡ away tints p u → tintLuma tints t < tintLuma tints u → Before tints p t u
+  darker-before t u e h = record { near = omega arith; dark = λ same. omega arith; low = λ same l. absurd (omega arith) }
+
+  lower-before : (t u : ℕ) → away tints p t ≡ away tints p u → tintLuma tints t ≤ tintLuma tints u → t ≤ u → Before tints p t u
+  lower-before t u e d h = record { near = omega arith; dark = λ same. d; low = λ same l. h }
+
+  before-itself : (t : ℕ) → Before tints p t t
+  before-itself t = lower-before t t refl (le-refl (tintLuma tints t)) (le-refl t)
+
+  before-both : (t u v : ℕ) → Before tints p t u → Before tints p u v → Before tints p t v
+  before-both t u v h k =
+      record {
+        near = le-trans (h .near) (k .near);
+        dark = λ e. le-trans (h .dark (as-near e)) (k .dark (as-near′ e));
+        low = λ e l.
+            let d = h .dark (as-near e) in
+            let d′ = k .dark (as-near′ e) in
+            le-trans (h .low (as-near e) (omega arith)) (k .low (as-near′ e) (omega arith));
+      }
+    where
+      as-near : away tints p t ≡ away tints p v → away tints p t ≡ away tints p u
+      as-near e = omega (arith, h .near, k .near)
+
+      as-near′ : away tints p t ≡ away tints p v → away tints p u ≡ away tints p v
+      as-near′ e = omega (arith, h .near, k .near)
+
+  winner-before : (x y : ℕ) → x < y → Before tints p (winner tints p x y) x × Before tints p (winner tints p x y) y
+  winner-before x y h =
+      winner-is (λ t. Before tints p t x × Before tints p t y) x y
+      (λ n. (nearer-before y x n, before-itself y))
+      (λ e d. (darker-before y x e d, before-itself y))
+      (λ e d. (before-itself x, lower-before x y (sym e) d (omega arith)))
+      (λ n. (before-itself x, nearer-before x y n))
 
   -- ---- a set of tints
   pub nearest-least : (x : ℕ) (ys : List ℕ) → away tints p (nearest tints p x ys) ≡ leastOf tints p (away tints p x) ys
   unfolding nearest leastOf
   nearest-least x [] = refl
   nearest-least x (y ∷ ys) = nearest-least (winner tints p x y) ys ∙ ap (λ m. leastOf tints p m ys) (winner-least x y)
+
+  -- The tint that a pixel takes of four.
+  pub nearest-takes : (f : Four) → Ascending f → Takes tints f p (tintOf tints f p)
+  unfolding nearest
+  nearest-takes f h =
+      let x = winner tints p (f .first) (f .second) in
+      let y = winner tints p x (f .third) in
+      let z = winner tints p y (f .fourth) in
+      let two = winner-before (f .first) (f .second) (h .low) in
+      let three = winner-before x (f .third) (winner-both (λ n. n < f .third) (f .first) (f .second) (omega (arith, h .low, h .middle)) (h .middle)) in
+      let four = winner-before y (f .fourth) (winner-both (λ n. n < f .fourth) x (f .third) (winner-both (λ n. n < f .fourth) (f .first) (f .second) (omega (arith, h .low, h .middle, h .high)) (omega (arith, h .middle, h .high))) (h .high)) in
+      let first = before-both z y x (four .0) (three .0) in
+      record {
+        one = winner-both One y (f .fourth) (winner-both One x (f .third) (winner-both One (f .first) (f .second) (inl refl) (inr (inl refl))) (inr (inr (inl refl)))) (inr (inr (inr refl)));
+        first = before-both z x (f .first) first (two .0);
+        second = before-both z x (f .second) first (two .1);
+        third = before-both z y (f .third) (four .0) (three .1);
+        fourth = four .1;
+      }
+    where
+      One : ℕ → Type 0
+      One t = (t ≡ f .first) ⊎ (t ≡ f .second) ⊎ (t ≡ f .third) ⊎ (t ≡ f .fourth)
 
   least-first : (m : ℕ) (ys : List ℕ) → leastOf tints p m ys ≤ m
   unfolding leastOf

@@ -4,10 +4,11 @@
 use Prim.Native.Nat.{ℕ, _+_, _-_, _*_, min}
 use mathlib.Core.Bool.{Bool, cond}
 use mathlib.Core.List.{List, [], _∷_}
-use lib.Dec.{ltb}
+use lib.Dec.{eqb, ltb}
 use lib.ListN.{getD}
 use Rattle.samples.specs.declared.Pixel.{Pixel}
 use Rattle.samples.specs.Samples.{pixel}
+use Rattle.lumachroma.specs.LumaChroma.{luma}
 
 -- Rule 13.1: tint t, of the codes of all tints.
 abbrev pub tint : List ℕ → ℕ → Pixel
@@ -24,9 +25,17 @@ distance p q = apart (p .first) (q .first) + apart (p .second) (q .second) + apa
 unfoldable pub away : List ℕ → Pixel → ℕ → ℕ
 away tints p t = distance p (tint tints t)
 
--- Rule 13.3: does tint y, whose number is the higher one, win the pixel from tint x? Only if it is nearer.
+-- Rule 13.3: the luma of tint t, rounded as rule 2.2 has it.
+unfoldable pub tintLuma : List ℕ → ℕ → ℕ
+tintLuma tints t = luma (tint tints t .first) (tint tints t .second) (tint tints t .third)
+
+-- Rule 13.3: of two tints that are as near, does y, whose number is the higher one, win from x? Only if it is darker.
+abbrev pub darker : List ℕ → ℕ → ℕ → Bool
+darker tints x y = ltb (tintLuma tints y) (tintLuma tints x)
+
+-- Rule 13.3: does tint y, whose number is the higher one, win the pixel from tint x? The nearer of them does, if one is.
 abbrev pub wins : List ℕ → Pixel → ℕ → ℕ → Bool
-wins tints p x y = ltb (away tints p y) (away tints p x)
+wins tints p x y = cond (eqb (away tints p y) (away tints p x)) (darker tints x y) (ltb (away tints p y) (away tints p x))
 
 unfoldable pub winner : List ℕ → Pixel → ℕ → ℕ → ℕ
 winner tints p x y = cond (wins tints p x y) y x

@@ -1,6 +1,9 @@
 // Four of 16 tints for stickers (rules, section 13): which four are nearest to a picture of 12-bit e-sRGB, and
-// which of them each pixel takes. For every picture, tints, budget and destination it promises the answer and
-// every byte, and that no other choice that was looked at has a smaller sum; it asks nothing of a caller.
+// which of them each pixel takes, the darkest of those nearest to it. For every picture, tints, budget and
+// destination it promises the answer and every byte, and that no other choice that was looked at has a smaller
+// sum; it asks nothing of a caller.
+use esrgb::Depth;
+use lumachroma::to_luma_chroma;
 use refusal::Answer;
 use refusal::Refusal;
 use samples::Pixel;
@@ -15,11 +18,11 @@ ghost use lib.Dec.{ltb};
 ghost use lib.ListN.{length, getD, drop};
 ghost use Rattle.refusal.specs.Answers.{Said, said, refusedAt, leaves};
 ghost use Rattle.samples.specs.Samples.{twoByTwo};
-ghost use Rattle.stickers.specs.Distances.{tint, apart, away, summed};
+ghost use Rattle.stickers.specs.Distances.{tint, apart, away, tintLuma, summed};
 ghost use Rattle.stickers.specs.Choices.{tintCount, tintCodes, four, choices, tintOf, sumOf, leastOfAll, sumOfAll, choiceOf};
 ghost use Rattle.stickers.specs.Stickers.{pictureSays, tintsSay, mostPixels, workSays, requestSays, pictureOf, chosenSaid, stickersSays, stickers};
 ghost use Rattle.stickers.specs.Promise.{Ascending, Promised};
-ghost use Rattle.stickers.specs.HowSummed.{AllCodes, TintCodes, CodePixel, after, blockSize, entryCount, mostEntry, rowOf, Column, BlockOf, rowSum, fourSum, Added, SumsOf, BestOf, rank};
+ghost use Rattle.stickers.specs.HowSummed.{AllCodes, TintCodes, CodePixel, after, blockSize, entryCount, mostEntry, rowOf, Column, BlockOf, rowSum, fourSum, Added, SumsOf, BestOf, tieRank, rank, TieRanks};
 
 // Four tints by number, ascending.
 pub struct Four {
@@ -407,18 +410,49 @@ fn search(src: &[u8], tints: &[u16; TINT_CODES], limit: usize) -> Choice
 
 // ---- the tints of the pixels
 //
-// A pixel takes the tint with the least rank, which no two tints have in common. Ranks are compared without a
-// branch, and the rank that is left tells the tint.
+// A pixel takes the tint with the least rank, which no two tints have in common: distance counts first, then luma,
+// then the number. Ranks are compared without a branch, and the rank that is left tells the tint.
 
-// The ranks of a distance: one for each tint.
-const RANKS: u32 = 16;
+// The ranks of a luma: one for each tint.
+const RANKS: u16 = 16;
+
+// The ranks of a distance: those of all lumas of 12 bits.
+const RANK_SPAN: u32 = 65536;
+
+fn tint_luma(tints: &[u16; TINT_CODES], t: usize) -> u16
+    requires { ⌜ t < tintCount ⌝ }
+    ensures { λ r. ⌜ r ≡ tintLuma (now (tints .entry)) t ⌝ }
+{
+    let converted = to_luma_chroma(Depth::Twelve, tint_at(tints, t));
+    converted.first
+}
+
+// What decides between tints that are as near, of tint t.
+fn tie_rank(tints: &[u16; TINT_CODES], t: usize) -> u16
+    requires { ⌜ TintCodes (now tints) × (t < tintCount) ⌝ }
+    ensures { λ r. ⌜ r ≡ tieRank (now (tints .entry)) t ⌝ }
+{
+    RANKS * tint_luma(tints, t) + (t as u16)
+}
+
+// The same of all tints, so that it is worked out once for a picture.
+fn fill_tie_ranks(tints: &[u16; TINT_CODES], ranks: &mut [u16; TINTS])
+    requires { ⌜ TintCodes (now tints) × (length (now ranks) ≡ tintCount) ⌝ }
+    ensures { λ _. ⌜ TieRanks (now (tints .entry)) (now (ranks .exit)) ⌝ }
+{
+    let mut t = 0;
+    while t < TINTS {
+        ranks[t] = tie_rank(tints, t);
+        t += 1;
+    }
+}
 
 // The rank of tint t for a pixel.
-fn rank_of(tints: &[u16; TINT_CODES], pixel: Pixel, t: u8) -> u32
-    requires { ⌜ TintCodes (now tints) × CodePixel pixel × (t < tintCount) ⌝ }
+fn rank_of(tints: &[u16; TINT_CODES], ranks: &[u16; TINTS], pixel: Pixel, t: u8) -> u32
+    requires { ⌜ TintCodes (now tints) × TieRanks (now tints) (now ranks) × CodePixel pixel × (t < tintCount) ⌝ }
     ensures { λ r. ⌜ r ≡ rank (now (tints .entry)) pixel t ⌝ }
 {
-    RANKS * (distance_to(tints, pixel, t as usize) as u32) + (t as u32)
+    RANK_SPAN * (distance_to(tints, pixel, t as usize) as u32) + (ranks[t as usize] as u32)
 }
 
 fn lower(x: u32, y: u32) -> u32
@@ -428,15 +462,15 @@ fn lower(x: u32, y: u32) -> u32
 }
 
 // The tint that a pixel takes of the four.
-fn tint_of(tints: &[u16; TINT_CODES], pixel: Pixel, choice: Four) -> u8
-    requires { ⌜ TintCodes (now tints) × CodePixel pixel × Ascending choice ⌝ }
+fn tint_of(tints: &[u16; TINT_CODES], ranks: &[u16; TINTS], pixel: Pixel, choice: Four) -> u8
+    requires { ⌜ TintCodes (now tints) × TieRanks (now tints) (now ranks) × CodePixel pixel × Ascending choice ⌝ }
     ensures { λ r. ⌜ r ≡ tintOf (now (tints .entry)) choice pixel ⌝ }
 {
-    let first = rank_of(tints, pixel, choice.first);
-    let two = lower(first, rank_of(tints, pixel, choice.second));
-    let three = lower(two, rank_of(tints, pixel, choice.third));
-    let four = lower(three, rank_of(tints, pixel, choice.fourth));
-    (four % RANKS) as u8
+    let first = rank_of(tints, ranks, pixel, choice.first);
+    let two = lower(first, rank_of(tints, ranks, pixel, choice.second));
+    let three = lower(two, rank_of(tints, ranks, pixel, choice.third));
+    let four = lower(three, rank_of(tints, ranks, pixel, choice.fourth));
+    (four % (RANKS as u32)) as u8
 }
 
 // Writes the tint of each pixel.
@@ -444,10 +478,12 @@ fn write_tints(src: &[u8], tints: &[u16; TINT_CODES], choice: Four, dst: &mut [u
     requires { ⌜ TintCodes (now tints) × AllCodes (twoByTwo (now src)) × Ascending choice × (length (now dst) ≡ length (pictureOf (now src))) ⌝ }
     ensures { λ _. ⌜ now (dst .exit) ≡ map (tintOf (now (tints .entry)) choice) (pictureOf (now (src .entry))) ⌝ }
 {
+    let mut ranks = [0u16; TINTS];
+    fill_tie_ranks(tints, &mut ranks);
     let mut i = 0;
     while i < dst.len() {
         let pixel = pixel_at(src, true, i);
-        dst[i] = tint_of(tints, pixel, choice);
+        dst[i] = tint_of(tints, &ranks, pixel, choice);
         i += 1;
     }
 }

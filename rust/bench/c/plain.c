@@ -152,6 +152,11 @@ static int32_t nearest_low(int32_t num, int32_t den)
     return num < 0 ? -magnitude : magnitude;
 }
 
+static inline uint32_t luma(uint32_t r, uint32_t g, uint32_t b)
+{
+    return (299 * r + 587 * g + 114 * b + 500) / 1000;
+}
+
 int64_t plain_to_luma_chroma(uint32_t depth, const uint8_t *src, size_t src_len, uint8_t *dst,
                              size_t dst_len, size_t *place)
 {
@@ -164,7 +169,7 @@ int64_t plain_to_luma_chroma(uint32_t depth, const uint8_t *src, size_t src_len,
     for (size_t k = 0; k < src_len / 2; k += 3) {
         int32_t r = (int32_t)sample(src, k), g = (int32_t)sample(src, k + 1);
         int32_t b = (int32_t)sample(src, k + 2);
-        put(dst, k, (uint32_t)(299 * r + 587 * g + 114 * b + 500) / 1000);
+        put(dst, k, luma((uint32_t)r, (uint32_t)g, (uint32_t)b));
         put(dst, k + 1, (uint32_t)(nearest_low(-299 * r - 587 * g + 886 * b, 1772) + middle));
         put(dst, k + 2, (uint32_t)(nearest_low(701 * r - 587 * g - 114 * b, 1402) + middle));
     }
@@ -542,20 +547,46 @@ static inline uint16_t least(uint16_t x, uint16_t y)
     return x < y ? x : y;
 }
 
-/* Each pixel's nearest of the four tints, the first of those as near. */
+/* The luma of each tint. */
+static void put_lumas(const uint16_t *tints, uint16_t lumas[TINTS])
+{
+    for (size_t t = 0; t < TINTS; t++)
+        lumas[t] = (uint16_t)luma(tints[3 * t], tints[3 * t + 1], tints[3 * t + 2]);
+}
+
+/* Each pixel's nearest of the four tints, of those as near the darkest, and the first of these. */
 static void write_nearest(const uint8_t *src, size_t pixels, const uint16_t *tints, const uint8_t four[4],
                           uint8_t *dst)
 {
+    uint16_t lumas[TINTS];
+    put_lumas(tints, lumas);
     for (size_t p = 0; p < pixels; p++) {
         uint16_t shortest = distance(src, p, tints, four[0]);
-        dst[p] = four[0];
+        uint8_t nearest = four[0];
         for (size_t k = 1; k < 4; k++) {
             uint16_t next = distance(src, p, tints, four[k]);
-            if (next < shortest) {
+            if (next < shortest || (next == shortest && lumas[four[k]] < lumas[nearest])) {
                 shortest = next;
-                dst[p] = four[k];
+                nearest = four[k];
             }
         }
+        dst[p] = nearest;
+    }
+}
+
+/* The same by one number for distance, luma and number of a tint, of which the least is taken. */
+static void write_by_rank(const uint8_t *src, size_t pixels, const uint16_t *tints, const uint8_t four[4],
+                          uint8_t *dst)
+{
+    uint16_t lumas[TINTS];
+    put_lumas(tints, lumas);
+    for (size_t p = 0; p < pixels; p++) {
+        uint32_t first = UINT32_MAX;
+        for (size_t k = 0; k < 4; k++) {
+            uint32_t rank = (uint32_t)distance(src, p, tints, four[k]) << 16 | (uint32_t)lumas[four[k]] << 4 | four[k];
+            first = rank < first ? rank : first;
+        }
+        dst[p] = (uint8_t)(first % TINTS);
     }
 }
 
@@ -654,8 +685,9 @@ static uint32_t add_pixels(const uint8_t *src, size_t pixels, const uint16_t *ti
     return with_all;
 }
 
-/* Stickers, with the sums made by one method or the other. */
+/* Stickers, with the sums made and the tints found by one method or the other. */
 static inline int64_t stickers_by(uint32_t (*add)(const uint8_t *, size_t, const uint16_t *, uint32_t *, size_t),
+                                  void (*write)(const uint8_t *, size_t, const uint16_t *, const uint8_t *, uint8_t *),
                                   const uint8_t *src, size_t src_len, const uint16_t *tints, size_t budget,
                                   uint8_t *dst, size_t dst_len, uint8_t four[4], uint32_t sums[2], size_t *place)
 {
@@ -666,20 +698,20 @@ static inline int64_t stickers_by(uint32_t (*add)(const uint8_t *, size_t, const
     uint32_t totals[CHOICES] = {0};
     sums[1] = add(src, dst_len, tints, totals, limit);
     sums[0] = put_best(totals, limit, four);
-    write_nearest(src, dst_len, tints, four, dst);
+    write(src, dst_len, tints, four, dst);
     return (int64_t)limit;
 }
 
 int64_t plain_stickers(const uint8_t *src, size_t src_len, const uint16_t tints[48], size_t budget,
                        uint8_t *dst, size_t dst_len, uint8_t four[4], uint32_t sums[2], size_t *place)
 {
-    return stickers_by(add_blocks, src, src_len, tints, budget, dst, dst_len, four, sums, place);
+    return stickers_by(add_blocks, write_by_rank, src, src_len, tints, budget, dst, dst_len, four, sums, place);
 }
 
 int64_t obvious_stickers(const uint8_t *src, size_t src_len, const uint16_t tints[48], size_t budget,
                          uint8_t *dst, size_t dst_len, uint8_t four[4], uint32_t sums[2], size_t *place)
 {
-    return stickers_by(add_pixels, src, src_len, tints, budget, dst, dst_len, four, sums, place);
+    return stickers_by(add_pixels, write_nearest, src, src_len, tints, budget, dst, dst_len, four, sums, place);
 }
 
 /* ---- The printer that kiosks share ---- */

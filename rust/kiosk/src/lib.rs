@@ -182,7 +182,9 @@ pub struct Stickers {
 
 /// Chooses four of 16 tints for a picture of 12-bit e-sRGB, and writes the number of each pixel's tint to `dst`, one
 /// byte a pixel (rule 13). `tints` are red, green and blue of tint 0, then of tint 1, and so on. No more than `budget`
-/// of the [`CHOICES`] are looked at, in lexicographic order, and the first with the smallest sum is chosen.
+/// of the [`CHOICES`] are looked at, in lexicographic order, and the first with the smallest sum is chosen. A pixel's
+/// tint is the nearest of the four; of those as near the one with the smallest luma, as [`Conversion::ToLumaChroma`]
+/// rounds it; and of those whose luma is the same too, the one with the lowest number.
 pub fn stickers(
     picture: &[u8],
     tints: &[u16; TINT_CODES],

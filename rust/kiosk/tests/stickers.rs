@@ -32,13 +32,17 @@ fn listed(tints: &[u16; TINT_CODES]) -> String {
     tints.chunks_exact(3).map(line).collect()
 }
 
+/// A folder with tints and a frame of these codes.
+fn with_codes(name: &str, tints: &[u16; TINT_CODES], codes: &[u16]) -> PathBuf {
+    let folder = folder(name);
+    write(&folder, "tints", listed(tints).as_bytes());
+    write(&folder, "in", &one_frame(2, 12, &wide(codes)));
+    folder
+}
+
 /// A folder with the tints and a frame of the pixels (10, 0, 0), (0, 20, 0) and black.
 fn with_frame(name: &str) -> PathBuf {
-    let folder = folder(name);
-    write(&folder, "tints", listed(&tints()).as_bytes());
-    let pixels = wide(&[10, 0, 0, 0, 20, 0, 0, 0, 0]);
-    write(&folder, "in", &one_frame(2, 12, &pixels));
-    folder
+    with_codes(name, &tints(), &[10, 0, 0, 0, 20, 0, 0, 0, 0])
 }
 
 /// The words of a call, and further ones.
@@ -90,6 +94,21 @@ fn looks_at_as_many_choices_as_asked() {
     holds(&["--budget", "1"], lines, [0; 3]);
     let left = fs::read_dir(&folder).expect("the folder").count();
     assert_eq!(left, 3, "no temporary file is left");
+}
+
+/// Rule 10.10, ties: the pixel (0, 0, 1) is 1 away from tints 0 and 1, whose lumas 0.228 and 0 are the same when they
+/// are rounded; (5, 5, 25) is 25 away from tints 2 and 3, whose lumas are 10 and 5; and (10, 10, 10) is tint 2.
+#[test]
+fn takes_the_darkest_of_those_as_near() {
+    let mut tints = [4095; TINT_CODES];
+    tints[..12].copy_from_slice(&[0, 0, 2, 0, 0, 0, 10, 10, 10, 0, 0, 40]);
+    let folder = with_codes("ties", &tints, &[0, 0, 1, 5, 5, 25, 10, 10, 10]);
+    assert_eq!(
+        printed(&folder, &["--budget", "1"]),
+        "tints 0, 1, 2, 3\nsum 26\nchoices looked at: 1 of 1820\nsum with all 16 tints: 26\n\
+         no choice has a smaller sum\n"
+    );
+    assert_eq!(written(&folder, "numbers"), [0, 3, 2]);
 }
 
 /// Numbers that look random, the same at every run.

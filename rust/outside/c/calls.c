@@ -490,6 +490,27 @@ static void stickers(void)
     CHECK(sticks(&room, 0, first, 0, 0));
 }
 
+/* Ties: the lumas of tints 0 to 3 are 0.228, which is rounded, 0, 10 and 4.56. The pixels are 1 away from tints 0 and
+ * 1, 25 away from 2 and 3, and tint 2 itself. */
+static void stickers_with_ties(void)
+{
+    static const uint16_t codes[12] = {0, 0, 2, 0, 0, 0, 10, 10, 10, 0, 0, 40};
+    static const uint16_t pixels[9] = {0, 0, 1, 5, 5, 25, 10, 10, 10};
+    static const uint8_t four[4] = {0, 1, 2, 3};
+    uint16_t tints[KIOSK_TINT_CODES];
+    uint8_t src[18];
+    struct sticker_room room;
+
+    for (size_t k = 12; k < KIOSK_TINT_CODES; k++)
+        tints[k] = 4095;
+    memcpy(tints, codes, sizeof codes);
+    for (size_t k = 0; k < 9; k++)
+        put_code(src, k, pixels[k]);
+    fill_room(&room);
+    CHECK(stickers_in(&room, src, sizeof src, tints, 1, 3) == 1);
+    CHECK(sticks(&room, 3, four, 26, 26) && room.dst[1] == 0 && room.dst[2] == 3 && room.dst[3] == 2);
+}
+
 /* More pixels than the library takes at a time, all black: to tints 5 and 9 they have distances of 10 and 20. */
 static void stickers_of_many_pixels(void)
 {
@@ -1089,6 +1110,7 @@ int main(void)
     light_at_sixteen();
     tints();
     stickers();
+    stickers_with_ties();
     stickers_of_many_pixels();
     stickers_refused();
     printer();

@@ -11,7 +11,7 @@ use std::time::Instant;
 /// A part of the tests: what it compares, and the function that gives how many.
 type Part = (&'static str, fn() -> u64);
 
-const PARTS: [Part; 48] = [
+const PARTS: [Part; 49] = [
     (
         "samples: every code of every depth",
         parts::pictures::every_sample,
@@ -96,6 +96,10 @@ const PARTS: [Part; 48] = [
     (
         "stickers of few pixels, with ties, equal tints and every kind of budget",
         parts::stickers::small,
+    ),
+    (
+        "stickers with ties, by rules that the test tells apart",
+        parts::stickers::ties,
     ),
     (
         "stickers of blocks of pixels and one more or less",

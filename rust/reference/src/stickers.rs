@@ -1,7 +1,8 @@
 //! Stickers (rule 13): every choice that is looked at is summed by itself, over all pixels, one after the other.
 
-use crate::samples::greatest;
+use crate::samples::{greatest, to_luma_chroma};
 use crate::Refusal;
+use std::array::from_fn;
 
 /// The codes of 16 tints: red, green and blue of tint 0, then of tint 1, and so on.
 pub type Tints = [u16; 48];
@@ -49,15 +50,20 @@ fn distances(pixel: &[i64], tints: &Tints) -> Distances {
     all
 }
 
-/// The nearest tint of a set whose numbers ascend: the first of those that are as near.
-fn nearest(distances: &Distances, set: &[u8]) -> u8 {
-    let mut nearest = set[0];
-    for &tint in set {
-        if distances[usize::from(tint)] < distances[usize::from(nearest)] {
-            nearest = tint;
-        }
-    }
-    nearest
+/// The luma of each of the 16 tints.
+fn lumas(tints: &Tints) -> [i64; 16] {
+    from_fn(|number| {
+        let codes = from_fn(|channel| tints[3 * number + channel].into());
+        to_luma_chroma(DEPTH, codes)[0]
+    })
+}
+
+/// The tint that a pixel takes of a set: the nearest, of those as near the one with the smallest luma, and of those
+/// with the same luma the one with the lowest number.
+fn taken(distances: &Distances, lumas: &[i64; 16], set: &[u8]) -> u8 {
+    let order = |&tint: &u8| (distances[usize::from(tint)], lumas[usize::from(tint)], tint);
+    let first = set.iter().copied().min_by_key(order);
+    first.expect("a set has tints")
 }
 
 /// The sum over all pixels of the shortest distance to a tint of a set.
@@ -135,8 +141,9 @@ pub fn stickers(
             best = (*choice, sum);
         }
     }
+    let lumas = lumas(tints);
     for (byte, pixel) in dst.iter_mut().zip(&pixels) {
-        *byte = nearest(pixel, &best.0);
+        *byte = taken(pixel, &lumas, &best.0);
     }
     let every: Vec<u8> = (0..16).collect();
     Ok(Stickers {
@@ -215,20 +222,36 @@ mod tests {
         }
     }
 
-    /// The pixel (10, 0, 0) is 2 away from tint 4, (8, 0, 0), and from tint 2, (10, 1, 1); the pixel (9, 0, 0) is 1
-    /// away from tint 4 and 3 from tint 2. Tint 11 is tint 2 again. All choices with 2 and 4 sum to 3, and so do those
-    /// with 4 alone and those with 4 and 11: the first with 4 is 0, 1, 2, 4. Without tint 2 the tie goes to tint 4,
-    /// before 11.
+    /// The pixel (10, 0, 0) is 2 away from tint 2, (10, 1, 1), and from tint 4, (8, 0, 0), whose lumas are 3.691 and
+    /// 2.392: it takes tint 4. The pixel (9, 0, 0) is 1 away from tint 4 and 3 from tint 2. All choices with 4 sum to 3:
+    /// the first is 0, 1, 2, 4. Tint 11 is tint 2 again, and of these two the lower number is taken.
     #[test]
-    fn ties_go_to_the_lowest_number() {
-        let pair = [(4, [8, 0, 0]), (11, [10, 1, 1])];
-        let pixels = [[10, 0, 0], [9, 0, 0]];
-        let tints = white_but(&[pair[0], pair[1], (2, [10, 1, 1])]);
+    fn ties_go_to_the_darkest_and_then_to_the_lowest_number() {
+        let tints = white_but(&[(2, [10, 1, 1]), (4, [8, 0, 0]), (11, [10, 1, 1])]);
         assert_eq!(
-            accepted(&pixels, &tints, 1820),
-            (given([0, 1, 2, 4], 3, 1820, 3), vec![2, 4])
+            accepted(&[[10, 0, 0], [9, 0, 0]], &tints, 1820),
+            (given([0, 1, 2, 4], 3, 1820, 3), vec![4, 4])
         );
-        assert_eq!(nearest(&distances(&[10, 0, 0], &tints), &[0, 1, 4, 11]), 4);
+        let of = |set: &[u8]| taken(&distances(&[10, 0, 0], &tints), &lumas(&tints), set);
+        assert_eq!(of(&[0, 1, 4, 11]), 4);
+        assert_eq!(of(&[0, 1, 2, 11]), 2);
+    }
+
+    /// Rule 10.10, ties: luma counts rounded, and only where the distances are equal. The lumas are 0.228, 0, 10 and
+    /// 4.56.
+    #[test]
+    fn luma_is_rounded_and_comes_behind_the_distance() {
+        let tints = white_but(&[
+            (0, [0, 0, 2]),
+            (1, [0, 0, 0]),
+            (2, [10, 10, 10]),
+            (3, [0, 0, 40]),
+        ]);
+        assert_eq!(lumas(&tints)[..5], [0, 0, 10, 5, 4095]);
+        assert_eq!(
+            accepted(&[[0, 0, 1], [5, 5, 25], [10, 10, 10]], &tints, 1),
+            (given([0, 1, 2, 3], 26, 1, 26), vec![0, 3, 2])
+        );
     }
 
     /// The last choice alone has the four tints that the pixels are: it needs the whole budget.

@@ -31,6 +31,12 @@ lower-requires-3 c κs = search needs
 cast-result : tie.Need-cast-result
 cast-result c = search needs
 
+rem-result : tie.Need-rem-result
+rem-result c = search needs
+
+cast-result-2 : tie.Need-cast-result-2
+cast-result-2 c = search needs
+
 returns : tie.Need-returns
 returns c =
     let fourth = c .before in
@@ -40,7 +46,7 @@ returns c =
     let second = one-two .before in
     let first = second .before in
     let s = first .before in
-    ranked (now (s .args .tints)) (s .args .pixel) (s .args .choice) (s .pre .2) _ _ _ _ _ _ _ _
+    ranked (now (s .args .tints)) (s .pre .0) (s .args .pixel) (s .args .choice) (s .pre .3) _ _ _ _ _ _ _ _
     (first .rank-of .ensures) (second .rank-of2 .ensures) (third .rank-of3 .ensures) (fourth .rank-of4 .ensures)
     (one-two .lower .ensures) (two-three .lower2 .ensures) (c .lower3 .ensures) refl
 
@@ -56,4 +62,6 @@ tint-of-spec =
     rank-of-requires-4
     lower-requires-3
     cast-result
+    rem-result
+    cast-result-2
     returns)

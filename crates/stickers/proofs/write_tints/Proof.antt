@@ -16,11 +16,14 @@ use Rattle.stickers.proofs.write_tints.Statement.{statement}
 use Rattle.stickers.proofs.write_tints.Tie as tie
 
 abbrev Inv-loop : tie.InvT-loop
-Inv-loop src tints choice dst₀ i₀ dst i =
+Inv-loop src tints choice dst₀ ranks i₀ dst i =
     (i ≤ length dst₀) × (length dst ≡ length dst₀) × Written (map (tintOf tints choice)) (pictureOf src) dst i i
 
 abbrev μ-loop : tie.MeasureT-loop
-μ-loop src tints choice dst₀ i₀ dst i = length dst₀ - i
+μ-loop src tints choice dst₀ ranks i₀ dst i = length dst₀ - i
+
+fill-tie-ranks-requires : tie.Need-fill-tie-ranks-requires Inv-loop μ-loop
+fill-tie-ranks-requires c κs = (c .before .before .before .pre .0, refl)
 
 loop-holds : tie.Need-loop-holds Inv-loop μ-loop
 loop-holds c = (omega arith, refl, refl)
@@ -30,9 +33,10 @@ pixel-at-requires c κs = search needs
 
 tint-of-requires : tie.Need-tint-of-requires Inv-loop μ-loop
 tint-of-requires c κs =
-    let l = c .before .before in
-    let s = l .before .before .before in
-    (s .pre .0, rw (c .pixel-at .ensures) (pixel-codes (twoByTwo (now (s .args .src))) (s .pre .1) (l .loop .i)), s .pre .2)
+    let l = c .before .before .before in
+    let filled = l .before in
+    let s = filled .before .before .before .before in
+    (s .pre .0, filled .fill-tie-ranks .ensures, rw (c .before .pixel-at .ensures) (pixel-codes (twoByTwo (now (s .args .src))) (s .pre .1) (l .loop .i)), s .pre .2)
 
 slice-write-dst : tie.Need-slice-write-dst Inv-loop μ-loop
 slice-write-dst c = omega arith
@@ -45,12 +49,12 @@ loop-less c = omega arith
 
 loop-again : tie.Need-loop-again Inv-loop μ-loop
 loop-again c =
-    let l = c .before .before .before in
-    let a = l .before .before .before .args in
+    let l = c .before .before .before .before in
+    let a = l .before .before .before .before .before .args in
     let tints = map (tintOf (now (a .tints)) (a .choice)) in
     let picture = pictureOf (now (a .src)) in
     let i = l .loop .i in
-    let pixel : c .before .pixel-at .result ≡ getD picture i noPixel = c .before .pixel-at .ensures in
+    let pixel : c .before .before .pixel-at .result ≡ getD picture i noPixel = c .before .before .pixel-at .ensures in
     let is : c .tint-of .result ≡ tintOf (now (a .tints)) (a .choice) (getD picture i noPixel) = c .tint-of .ensures ∙ ap (tintOf (now (a .tints)) (a .choice)) pixel in (
       omega arith,
       simp length-set (l .loop .inv .1),
@@ -66,7 +70,7 @@ same-length c = c .before .loop .inv .1
 returns : tie.Need-returns Inv-loop μ-loop
 returns c =
     let l = c .before in
-    let a = l .before .before .before .args in
+    let a = l .before .before .before .before .before .args in
     written-all (map (tintOf (now (a .tints)) (a .choice))) (pictureOf (now (a .src))) (l .loop .dst) (l .loop .i) (l .loop .i) refl (omega arith) (omega arith) (l .loop .inv .2)
 
 pub write-tints-spec : {M : Type 1} → statement M
@@ -75,6 +79,7 @@ write-tints-spec =
     (tie.spec
     Inv-loop
     μ-loop
+    fill-tie-ranks-requires
     loop-holds
     pixel-at-requires
     tint-of-requires

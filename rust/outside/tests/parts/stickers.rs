@@ -3,6 +3,7 @@
 use super::pictures::wide;
 use outside::{by_both, Random};
 use reference::stickers::{stickers, Stickers, Tints};
+use std::array::from_fn;
 use std::collections::BTreeSet;
 
 /// The choices of four tints out of 16.
@@ -61,10 +62,13 @@ fn in_other_words(given: kiosk::Stickers) -> Stickers {
     }
 }
 
-/// A call by both, over a destination that held `before`. Gives the answer, or the number of the refusal.
-fn stick(picture: &[u8], tints: &Tints, budget: usize, before: &[u8]) -> Result<Stickers, u8> {
+/// What an accepted call gives, and each pixel's tint.
+type Stuck = (Stickers, Vec<u8>);
+
+/// A call by both, over a destination that held `before`. Gives the number of the refusal if there is one.
+fn stick(picture: &[u8], tints: &Tints, budget: usize, before: &[u8]) -> Result<Stuck, u8> {
     let mut given = None;
-    let (refused, _) = by_both(
+    let (refused, numbers) = by_both(
         before,
         0xa5,
         |dst| kiosk::stickers(picture, tints, budget, dst).map(in_other_words),
@@ -75,13 +79,16 @@ fn stick(picture: &[u8], tints: &Tints, budget: usize, before: &[u8]) -> Result<
         },
         || format!("stickers of {picture:?} in {tints:?} with a budget of {budget}"),
     );
-    given.ok_or(refused.unwrap_or_default())
+    match given {
+        Some(given) => Ok((given, numbers)),
+        None => Err(refused.unwrap_or_default()),
+    }
 }
 
 /// Stickers of a sound picture, in a destination that held something else.
-fn sticks(picture: &[u8], tints: &Tints, budget: usize) -> Stickers {
-    let given = stick(picture, tints, budget, &vec![0x5a; picture.len() / 6]);
-    given.expect("a sound picture is accepted")
+fn sticks(picture: &[u8], tints: &Tints, budget: usize) -> Stuck {
+    let stuck = stick(picture, tints, budget, &vec![0x5a; picture.len() / 6]);
+    stuck.expect("a sound picture is accepted")
 }
 
 /// A budget: few, any number of choices, about all, and more than there are.
@@ -101,13 +108,77 @@ pub fn small() -> u64 {
         let tints = any_tints(range, &mut random);
         let pixels = random.below(10) as usize;
         let picture = any_picture(range, &tints, pixels, &mut random);
-        let given = sticks(&picture, &tints, any_budget(&mut random));
+        let (given, _) = sticks(&picture, &tints, any_budget(&mut random));
         chosen.insert(given.tints);
         perfect += usize::from(given.sum == given.least);
     }
     assert!(chosen.len() > 1000, "only {} choices", chosen.len());
     assert!((1000..PICTURES - 1000).contains(&perfect), "{perfect}");
     PICTURES as u64
+}
+
+/// A tint beside a pixel: its distance, its luma, 1000 times its luma before that is rounded, and its number.
+struct Beside {
+    distance: i64,
+    luma: i64,
+    exact: i64,
+    number: i64,
+}
+
+impl Beside {
+    fn new(pixel: &[u8], tints: &Tints, number: u8) -> Self {
+        let tint: [i64; 3] = from_fn(|k| tints[3 * usize::from(number) + k].into());
+        let code = |k: usize| i64::from(u16::from_le_bytes([pixel[2 * k], pixel[2 * k + 1]]));
+        let exact = 299 * tint[0] + 587 * tint[1] + 114 * tint[2];
+        Beside {
+            distance: (0..3).map(|k| (code(k) - tint[k]).abs()).sum(),
+            luma: (exact + 500) / 1000,
+            exact,
+            number: number.into(),
+        }
+    }
+}
+
+/// What a pixel's tint goes by: the tint with the least of these is taken.
+type Rule = fn(&Beside) -> [i64; 3];
+
+const RULE: Rule = |b| [b.distance, b.luma, b.number];
+
+const WRONG_RULES: [(&str, Rule); 5] = [
+    ("the lowest number", |b| [b.distance, b.number, 0]),
+    ("the lighter", |b| [b.distance, -b.luma, b.number]),
+    ("the highest number", |b| [b.distance, b.luma, -b.number]),
+    ("luma first", |b| [b.luma, b.distance, b.number]),
+    ("exact luma", |b| [b.distance, b.exact, b.number]),
+];
+
+/// Pictures of few codes, in which tints are often as near as others. The test finds each pixel's tint by itself, and
+/// sums the distances of those written; and many pixels tell the rule from wrong ones.
+pub fn ties() -> u64 {
+    const PICTURES: u64 = 3_000;
+    let mut random = Random::new(17);
+    let mut told = [0; WRONG_RULES.len()];
+    for _ in 0..PICTURES {
+        let range = random.pick(&RANGES[1..]);
+        let tints = any_tints(range, &mut random);
+        let picture = any_picture(range, &tints, 30, &mut random);
+        let (given, numbers) = sticks(&picture, &tints, 1 + random.below(30) as usize);
+        let mut sum = 0;
+        for (pixel, &number) in picture.chunks_exact(6).zip(&numbers) {
+            let four = given.tints.map(|tint| Beside::new(pixel, &tints, tint));
+            let taken = |rule: Rule| four.iter().min_by_key(|b| rule(b)).expect("there are four");
+            assert_eq!(taken(RULE).number, number.into(), "{pixel:?} in {tints:?}");
+            sum += taken(RULE).distance as u64;
+            for (told, (_, wrong)) in told.iter_mut().zip(WRONG_RULES) {
+                *told += u64::from(taken(wrong).number != number.into());
+            }
+        }
+        assert_eq!(given.sum, sum);
+    }
+    for ((name, _), told) in WRONG_RULES.iter().zip(told) {
+        assert!(told > 1000, "{name}: only {told} pixels tell it apart");
+    }
+    PICTURES
 }
 
 /// Pictures whose last block is full, one pixel short of that or one beyond, and one of some thousand pixels.
@@ -138,7 +209,7 @@ pub fn largest() -> u64 {
     for budget in [1, 40, CHOICES] {
         sticks(&picture, &tints, budget);
     }
-    let given = sticks(&vec![0; 6 * MOST], &[4095; 48], 2);
+    let (given, _) = sticks(&vec![0; 6 * MOST], &[4095; 48], 2);
     assert_eq!((given.sum, given.least), (12_285 << 16, 12_285 << 16));
 
     let mut refused = Vec::new();

@@ -65,12 +65,13 @@ preview   writes the frame as an 8-bit PNG picture, and says on standard error h
           many pixels sRGB cannot hold, if any
 stickers  chooses four of 16 tints for a frame of at most 65,536 pixels: those from
           which its codes differ least in sum, if each pixel gets the nearest. It
-          writes one byte for each pixel, the number of its tint from 0 to 15, and
-          with --preview a PNG picture in the four tints. It prints the four
-          numbers, the sum, and by how much another choice can be better. The tints
-          are 48 codes of 12-bit e-sRGB in a text file, three for each, with white
-          space or commas between them; # begins a comment. N is how many of the
-          1820 choices are looked at, if not all
+          writes one byte for each pixel, the number of its tint from 0 to 15: the
+          nearest of the four, and the darkest of those that are as near. With
+          --preview it writes a PNG picture in the four tints too. It prints the
+          four numbers, the sum, and by how much another choice can be better. The
+          tints are 48 codes of 12-bit e-sRGB in a text file, three for each, with
+          white space or commas between them; # begins a comment. N is how many of
+          the 1820 choices are looked at, if not all
 relayout  writes the spool in the other layout: a plain one strided, without gaps,
           and a strided one plain, which is refused if a frame has gaps between its
           rows

@@ -4,7 +4,7 @@ use Prim.Native.Nat.{ℕ, zero, suc, _+_, _-_, _*_, _≤_, _<_, min}
 use mathlib.Core.Path.{_≡_, refl, sym, ap, _∙_}
 use mathlib.Core.Bool.{Bool, true, false, cond}
 use mathlib.Core.List.{List, [], _∷_}
-use mathlib.Core.Logic.{_⊎_, inl, inr, ⊎-elim}
+use mathlib.Core.Logic.{inl, inr, ⊎-elim}
 use native.Mathlib.Nat.{le-refl, le-trans, eq-or-lt-of-le}
 use native.Mathlib.Numerals.{add-one}
 use native.Mathlib.Omega.{arith}
@@ -18,35 +18,29 @@ use Rattle.esrgb.specs.Depths.{greatest}
 use Rattle.stickers.specs.declared.Four.{Four}
 use Rattle.stickers.specs.Distances.{tint, apart, away, tintLuma, winner, nearest, leastOf, summed}
 use Rattle.stickers.specs.Choices.{tintCount, upward, from, tintOf, leastOfFour, sumOf, leastOfAll, sumOfAll}
-use Rattle.stickers.specs.Promise.{Ascending, Before, Takes}
+use Rattle.stickers.specs.Promise.{Ascending, Before, OneOf, Takes}
 use Rattle.stickers.specs.HowSummed.{AllCodes, TintCodes, CodePixel}
 
 module _ (tints : List ℕ) (p : Pixel) where
   -- ---- two tints
-  -- Which of them the winner is, by what decides.
-  winner-by :
-      (P : ℕ → Type 0) (x y : ℕ) (as-near darker nearer : Bool)
-      → eqb (away tints p y) (away tints p x) ≡ as-near → ltb (tintLuma tints y) (tintLuma tints x) ≡ darker → ltb (away tints p y) (away tints p x) ≡ nearer
-      → (away tints p y < away tints p x → P y)
-      → (away tints p y ≡ away tints p x → tintLuma tints y < tintLuma tints x → P y)
-      → (away tints p y ≡ away tints p x → tintLuma tints x ≤ tintLuma tints y → P x)
-      → (away tints p x < away tints p y → P x)
-      → P (cond (cond as-near darker nearer) y x)
-  winner-by P x y true true nearer e d n later-near later-dark first-dark first-near = later-dark (eqb-true _ _ e) (ltb-true _ _ d)
-  winner-by P x y true false nearer e d n later-near later-dark first-dark first-near = first-dark (eqb-true _ _ e) (ltb-false _ _ d)
-  winner-by P x y false darker true e d n later-near later-dark first-dark first-near = later-near (ltb-true _ _ n)
-  winner-by P x y false darker false e d n later-near later-dark first-dark first-near =
-      first-near (omega (arith, ltb-false (away tints p y) (away tints p x) n, eqb-false (away tints p y) (away tints p x) e))
+  -- What is to be shown of the winner is shown of each of the two where that one wins.
+  module _ (P : ℕ → Type 0) (x y : ℕ)
+      (nearer-later : away tints p y < away tints p x → P y)
+      (darker-later : away tints p y ≡ away tints p x → tintLuma tints y < tintLuma tints x → P y)
+      (darker-first : away tints p y ≡ away tints p x → tintLuma tints x ≤ tintLuma tints y → P x)
+      (nearer-first : away tints p x < away tints p y → P x) where
+    winner-by :
+        (as-near darker nearer : Bool) → eqb (away tints p y) (away tints p x) ≡ as-near → ltb (tintLuma tints y) (tintLuma tints x) ≡ darker
+        → ltb (away tints p y) (away tints p x) ≡ nearer → P (cond (cond as-near darker nearer) y x)
+    winner-by true true nearer e d n = darker-later (eqb-true _ _ e) (ltb-true _ _ d)
+    winner-by true false nearer e d n = darker-first (eqb-true _ _ e) (ltb-false _ _ d)
+    winner-by false darker true e d n = nearer-later (ltb-true _ _ n)
+    winner-by false darker false e d n =
+        nearer-first (omega (arith, ltb-false (away tints p y) (away tints p x) n, eqb-false (away tints p y) (away tints p x) e))
 
-  pub winner-is :
-      (P : ℕ → Type 0) (x y : ℕ)
-      → (away tints p y < away tints p x → P y)
-      → (away tints p y ≡ away tints p x → tintLuma tints y < tintLuma tints x → P y)
-      → (away tints p y ≡ away tints p x → tintLuma tints x ≤ tintLuma tints y → P x)
-      → (away tints p x < away tints p y → P x)
-      → P (winner tints p x y)
-  unfolding winner
-  winner-is P x y later-near later-dark first-dark first-near = winner-by P x y _ _ _ refl refl refl later-near later-dark first-dark first-near
+    pub winner-is : P (winner tints p x y)
+    unfolding winner
+    winner-is = winner-by _ _ _ refl refl refl
 
   pub winner-both : (P : ℕ → Type 0) (x y : ℕ) → P x → P y → P (winner tints p x y)
   winner-both P x y hx hy = winner-is P x y (λ n. hy) (λ e d. hy) (λ e d. hx) (λ n. hx)
@@ -99,6 +93,19 @@ module _ (tints : List ℕ) (p : Pixel) where
   nearest-least x [] = refl
   nearest-least x (y ∷ ys) = nearest-least (winner tints p x y) ys ∙ ap (λ m. leastOf tints p m ys) (winner-least x y)
 
+  -- The winners of the first two, three and four tints have lower numbers than what comes next.
+  pub winners-below :
+      (f : Four) → Ascending f →
+      let x = winner tints p (f .first) (f .second) in
+      let y = winner tints p x (f .third) in
+      (x < f .third) × (y < f .fourth) × (winner tints p y (f .fourth) < tintCount)
+  winners-below f h =
+      let x = winner tints p (f .first) (f .second) in
+      let y = winner tints p x (f .third) in
+      let low : x < f .third = winner-both (λ n. n < f .third) (f .first) (f .second) (omega (arith, h .low, h .middle)) (h .middle) in
+      let middle : y < f .fourth = winner-both (λ n. n < f .fourth) x (f .third) (omega (arith, h .high)) (h .high) in
+      (low, middle, winner-both (λ n. n < tintCount) y (f .fourth) (omega (arith, h .there)) (h .there))
+
   -- The tint that a pixel takes of four.
   pub nearest-takes : (f : Four) → Ascending f → Takes tints f p (tintOf tints f p)
   unfolding nearest
@@ -106,20 +113,20 @@ module _ (tints : List ℕ) (p : Pixel) where
       let x = winner tints p (f .first) (f .second) in
       let y = winner tints p x (f .third) in
       let z = winner tints p y (f .fourth) in
+      let below = winners-below f h in
       let two = winner-before (f .first) (f .second) (h .low) in
-      let three = winner-before x (f .third) (winner-both (λ n. n < f .third) (f .first) (f .second) (omega (arith, h .low, h .middle)) (h .middle)) in
-      let four = winner-before y (f .fourth) (winner-both (λ n. n < f .fourth) x (f .third) (winner-both (λ n. n < f .fourth) (f .first) (f .second) (omega (arith, h .low, h .middle, h .high)) (omega (arith, h .middle, h .high))) (h .high)) in
-      let first = before-both z y x (four .0) (three .0) in
+      let three = winner-before x (f .third) (below .0) in
+      let four = winner-before y (f .fourth) (below .1) in
+      let one-of-two = winner-both (OneOf f) (f .first) (f .second) (inl refl) (inr (inl refl)) in
+      let one-of-three = winner-both (OneOf f) x (f .third) one-of-two (inr (inr (inl refl))) in
+      let before-two = before-both z y x (four .0) (three .0) in
       record {
-        one = winner-both One y (f .fourth) (winner-both One x (f .third) (winner-both One (f .first) (f .second) (inl refl) (inr (inl refl))) (inr (inr (inl refl)))) (inr (inr (inr refl)));
-        first = before-both z x (f .first) first (two .0);
-        second = before-both z x (f .second) first (two .1);
+        one = winner-both (OneOf f) y (f .fourth) one-of-three (inr (inr (inr refl)));
+        first = before-both z x (f .first) before-two (two .0);
+        second = before-both z x (f .second) before-two (two .1);
         third = before-both z y (f .third) (four .0) (three .1);
         fourth = four .1;
       }
-    where
-      One : ℕ → Type 0
-      One t = (t ≡ f .first) ⊎ (t ≡ f .second) ⊎ (t ≡ f .third) ⊎ (t ≡ f .fourth)
 
   least-first : (m : ℕ) (ys : List ℕ) → leastOf tints p m ys ≤ m
   unfolding leastOf

@@ -17,7 +17,7 @@ use Rattle.stickers.specs.Distances.{tint, tintLuma, winner, nearest}
 use Rattle.stickers.specs.Choices.{tintCount, tintOf}
 use Rattle.stickers.specs.Promise.{Ascending}
 use Rattle.stickers.specs.HowSummed.{TintCodes, tieRank, rankSpan, rank}
-use Rattle.stickers.proofs.Nearest.{winner-is, winner-both, tint-codes}
+use Rattle.stickers.proofs.Nearest.{winner-is, winners-below, tint-codes}
 use Rattle.stickers.proofs.Blocks.{last-or-before}
 
 module _ (tints : List ℕ) (codes : TintCodes tints) where
@@ -70,10 +70,8 @@ module _ (tints : List ℕ) (codes : TintCodes tints) (p : Pixel) (f : Four) (h 
       let x = winner tints p (f .first) (f .second) in
       let y = winner tints p x (f .third) in
       let z = winner tints p y (f .fourth) in
-      let low : x < f .third = winner-both tints p (λ n. n < f .third) (f .first) (f .second) (omega (arith, h .low, h .middle)) (h .middle) in
-      let middle : y < f .fourth = winner-both tints p (λ n. n < f .fourth) x (f .third) (omega (arith, h .high)) (h .high) in
-      let there : z < tintCount = winner-both tints p (λ n. n < tintCount) y (f .fourth) (omega (arith, h .there)) (h .there) in
+      let below = winners-below tints p f h in
       let first = ranked-more tints codes p (f .first) (f .second) a b two (h .low) (omega (arith, h .middle, h .high, h .there)) is-a is-b is-two in
-      let second = ranked-more tints codes p x (f .third) two c three low (omega (arith, h .high, h .there)) first is-c is-three in
-      let third = ranked-more tints codes p y (f .fourth) three d four middle (h .there) second is-d is-four in
-      is ∙ ap (λ n. n % tintCount) third ∙ number-of-rank tints codes p z there
+      let second = ranked-more tints codes p x (f .third) two c three (below .0) (omega (arith, h .high, h .there)) first is-c is-three in
+      let third = ranked-more tints codes p y (f .fourth) three d four (below .1) (h .there) second is-d is-four in
+      is ∙ ap (λ n. n % tintCount) third ∙ number-of-rank tints codes p z (below .2)

@@ -33,7 +33,7 @@ tintLuma tints t = luma (tint tints t .first) (tint tints t .second) (tint tints
 abbrev pub darker : List ℕ → ℕ → ℕ → Bool
 darker tints x y = ltb (tintLuma tints y) (tintLuma tints x)
 
--- Rule 13.3: does tint y, whose number is the higher one, win the pixel from tint x? The nearer of them does, if one is.
+-- Rule 13.3: does tint y, whose number is the higher one, win the pixel from tint x? If one of them is nearer, that one wins.
 abbrev pub wins : List ℕ → Pixel → ℕ → ℕ → Bool
 wins tints p x y = cond (eqb (away tints p y) (away tints p x)) (darker tints x y) (ltb (away tints p y) (away tints p x))
 

@@ -44,8 +44,11 @@ pub record Before (tints : List ℕ) (p : Pixel) (t u : ℕ) : Type 0 where
   pub low : away tints p t ≡ away tints p u → tintLuma tints t ≡ tintLuma tints u → t ≤ u
 
 -- Rule 13.3: tint t is one of four, and the pixel takes it before the others.
+abbrev pub OneOf : Four → ℕ → Type 0
+OneOf f t = (t ≡ f .first) ⊎ (t ≡ f .second) ⊎ (t ≡ f .third) ⊎ (t ≡ f .fourth)
+
 pub record Takes (tints : List ℕ) (f : Four) (p : Pixel) (t : ℕ) : Type 0 where
-  pub one : (t ≡ f .first) ⊎ (t ≡ f .second) ⊎ (t ≡ f .third) ⊎ (t ≡ f .fourth)
+  pub one : OneOf f t
   pub first : Before tints p t (f .first)
   pub second : Before tints p t (f .second)
   pub third : Before tints p t (f .third)

@@ -419,6 +419,7 @@ const RANKS: u16 = 16;
 // The ranks of a distance: those of all lumas of 12 bits.
 const RANK_SPAN: u32 = 65536;
 
+// The luma of tint t, rounded as in a picture.
 fn tint_luma(tints: &[u16; TINT_CODES], t: usize) -> u16
     requires { ⌜ t < tintCount ⌝ }
     ensures { λ r. ⌜ r ≡ tintLuma (now (tints .entry)) t ⌝ }

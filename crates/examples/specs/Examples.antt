@@ -4,7 +4,7 @@
 use Prim.Native.Nat.{ℕ, suc, _+_, _-_}
 use mathlib.Core.Path.{_≡_}
 use mathlib.Core.Bool.{Bool, true, false}
-use mathlib.Core.List.{List, [], _∷_, map}
+use mathlib.Core.List.{List, [], _∷_, _++_, map}
 use lib.IntN.{ℤ, pos, negsuc}
 use lib.Ieee.{nan, inf, fin, neg}
 use Rattle.doubles.specs.Doubles.{double}
@@ -102,9 +102,9 @@ pub data AllHold : List Example → Type 0 where
   done : AllHold []
   _&_ : {s : Example} {rest : List Example} → Holds s → AllHold rest → AllHold (s ∷ rest)
 
-abbrev pub examples : List Example
-examples =
-    -- Rule 10.1.
+-- Rule 10.1.
+abbrev pub srgbExamples : List Example
+srgbExamples =
     convert (FromSrgb 10) (pixel 0 128 255) (pixel 384 640 894)
     ∷ convert (FromSrgb 16) (pixel 255 255 255) (pixel 57216 57216 57216)
     ∷ convert (ToSrgb 10) (pixel 383 385 893) (pixel 0 1 255)
@@ -116,8 +116,12 @@ examples =
     ∷ clips 10 895 true
     ∷ clips 16 57216 false
     ∷ clips 16 57217 true
-    -- Rule 10.2.
-    ∷ lightOf 12 (pos 1) (pos 38)
+    ∷ []
+
+-- Rule 10.2.
+abbrev pub lightExamples : List Example
+lightExamples =
+    lightOf 12 (pos 1) (pos 38)
     ∷ lightOf 12 (negsuc 0) (negsuc 37)
     ∷ lightOf 12 (pos 82) (pos 3111)
     ∷ lightOf 12 (pos 2040) (pos 1000000)
@@ -130,8 +134,12 @@ examples =
     ∷ lightOf 16 (negsuc 24575) (negsuc 527114)
     ∷ codeOf 12 (pos 3130) 1618
     ∷ codeOf 12 (pos 3131) 1619
-    -- Rule 10.3.
-    ∷ convert (ToLumaChroma 10) (pixel 894 384 384) (pixel 536 426 767)
+    ∷ []
+
+-- Rules 10.3 to 10.5.
+abbrev pub lumaChromaExamples : List Example
+lumaChromaExamples =
+    convert (ToLumaChroma 10) (pixel 894 384 384) (pixel 536 426 767)
     ∷ convert (ToLumaChroma 10) (pixel 0 0 1023) (pixel 117 1023 429)
     ∷ convert (ToLumaChroma 10) (pixel 1023 1023 0) (pixel 906 1 595)
     ∷ convert (ToLumaChroma 10) (pixel 894 894 894) (pixel 894 512 512)
@@ -142,22 +150,34 @@ examples =
     -- Rule 10.5.
     ∷ fromSrgbAndBack 10 (pixel 0 0 255) (pixel 1 0 255)
     ∷ fromSrgbAndBack 12 (pixel 0 0 255) (pixel 0 0 255)
-    -- Rule 10.6.
-    ∷ convert (ChangeDepth 10 12) (pixel 1023 1023 1023) (pixel 4092 4092 4092)
+    ∷ []
+
+-- Rule 10.6.
+abbrev pub depthExamples : List Example
+depthExamples =
+    convert (ChangeDepth 10 12) (pixel 1023 1023 1023) (pixel 4092 4092 4092)
     ∷ convert (ChangeDepth 12 10) (pixel 1538 1539 4095) (pixel 385 385 1023)
     ∷ convert (ChangeDepth 16 10) (pixel 65535 65535 65535) (pixel 1023 1023 1023)
     ∷ convert (ChangeDepth 16 12) (pixel 65535 65535 65535) (pixel 4095 4095 4095)
-    -- Rule 10.8. `double a b` is the double nearest to a / b, and `fin negative m e` is m × 2^e.
-    ∷ tint (Code 0 128 255) (gives (pixel 1536 2560 3576))
+    ∷ []
+
+-- Rule 10.8. `double a b` is the double nearest to a / b, and `fin negative m e` is m × 2^e.
+abbrev pub tintExamples : List Example
+tintExamples =
+    tint (Code 0 128 255) (gives (pixel 1536 2560 3576))
     ∷ tint (Nonlinear (channels (double 0 1) (double 1 1) (double 5 4))) (gives (pixel 1536 3576 4086))
     ∷ tint (Nonlinear (channels (neg (double 3059 4080)) (double 1 4080) (neg (double 0 1)))) (gives (pixel 7 1537 1536))
     ∷ tint (Nonlinear (channels (fin false 1 (pos 1023)) (fin true 1 (pos 1023)) (fin false 1 (negsuc 1073)))) (gives (pixel 4095 0 1536))
     ∷ tint (Light (channels (double 313 100000) (double 3131 1000000) (double 0 1))) (gives (pixel 1618 1619 1536))
     ∷ tint (Nonlinear (channels (double 1 1) (inf true) nan)) (refusesAt 17 1)
     ∷ tint (Light (channels nan (double 1 1) (inf false))) (refusesAt 17 0)
-    -- Rule 10.9: white, black, red, green and blue of sRGB in e-sYCC and in sYCC. Red has luma 0.299, blue chroma −0.299 / 3.544, which is
-    -- −0.084368, and red chroma 0.701 / 2.804, which is 1/4: times 1,023, and chroma plus 512, these are 305.877, 425.692 and 767.75.
-    ∷ convert (ToEsycc 10) (pixel 894 894 894) (pixel 1023 512 512)
+    ∷ []
+
+-- Rule 10.9: white, black, red, green and blue of sRGB in e-sYCC and in sYCC. Red has luma 0.299, blue chroma −0.299 / 3.544, which is
+-- −0.084368, and red chroma 0.701 / 2.804, which is 1/4: times 1,023, and chroma plus 512, these are 305.877, 425.692 and 767.75.
+abbrev pub yccExamples : List Example
+yccExamples =
+    convert (ToEsycc 10) (pixel 894 894 894) (pixel 1023 512 512)
     ∷ convert (ToEsycc 10) (pixel 384 384 384) (pixel 0 512 512)
     ∷ convert (ToEsycc 10) (pixel 894 384 384) (pixel 306 426 768)
     ∷ convert (ToEsycc 10) (pixel 384 894 384) (pixel 601 343 298)
@@ -204,8 +224,12 @@ examples =
     ∷ convert (FromSycc 10) (pixel 255 128 128) (pixel 895 893 896)
     ∷ convert (FromSycc 12) (pixel 255 128 128) (pixel 3582 3572 3583)
     ∷ convert (FromSycc 16) (pixel 255 128 128) (pixel 57306 57148 57329)
-    -- Rule 10.10.
-    ∷ choiceFor (tintsWith white) threePixels 1 (answer (four 0 1 2 3) 36825 1 10)
+    ∷ []
+
+-- Rule 10.10.
+abbrev pub stickerExamples : List Example
+stickerExamples =
+    choiceFor (tintsWith white) threePixels 1 (answer (four 0 1 2 3) 36825 1 10)
     ∷ bytesFor (tintsWith white) threePixels 1 (0 ∷ 0 ∷ 0 ∷ [])
     ∷ choiceFor (tintsWith white) threePixels 3 (answer (four 0 1 2 5) 40 3 10)
     ∷ bytesFor (tintsWith white) threePixels 3 (5 ∷ 5 ∷ 5 ∷ [])
@@ -219,8 +243,12 @@ examples =
     ∷ bytesFor tiedTints tiedPixels 1 (0 ∷ 3 ∷ 2 ∷ [])
     ∷ choiceFor (tintsWith white) [] 7 (answer (four 0 1 2 3) 0 7 0)
     ∷ choiceFor (tintsWith white) [] 1821 (answer (four 0 1 2 3) 0 1820 0)
-    -- Rule 10.11.
-    ∷ turnsOf fourArrivals 9 (2 ∷ 5 ∷ 2 ∷ 2 ∷ 2 ∷ 255 ∷ 0 ∷ 255 ∷ 255 ∷ [])
+    ∷ []
+
+-- Rule 10.11.
+abbrev pub printerExamples : List Example
+printerExamples =
+    turnsOf fourArrivals 9 (2 ∷ 5 ∷ 2 ∷ 2 ∷ 2 ∷ 255 ∷ 0 ∷ 255 ∷ 255 ∷ [])
     ∷ turnsOf behindFour 4 (4 ∷ 255 ∷ 6 ∷ 3 ∷ [])
     ∷ simulation fourArrivals 9 (accepted 9)
     ∷ simulation [] 3 (accepted 3)
@@ -232,3 +260,7 @@ examples =
     ∷ simulation (0 ∷ 0 ∷ 1 ∷ 5 ∷ 0 ∷ 1 ∷ 4 ∷ 0 ∷ 1 ∷ []) 3 (refusedAt 22 2)
     ∷ simulation (0 ∷ 0 ∷ 1 ∷ 5 ∷ 0 ∷ []) 3 (refusedAt 22 1)
     ∷ []
+
+-- All of them.
+abbrev pub examples : List Example
+examples = srgbExamples ++ lightExamples ++ lumaChromaExamples ++ depthExamples ++ tintExamples ++ yccExamples ++ stickerExamples ++ printerExamples

@@ -16,7 +16,8 @@ use Rattle.stickers.specs.declared.Four.{Four}
 use Rattle.stickers.specs.Distances.{tint, tintLuma, winner, nearest}
 use Rattle.stickers.specs.Choices.{tintCount, tintOf}
 use Rattle.stickers.specs.Promise.{Ascending}
-use Rattle.stickers.specs.HowSummed.{TintCodes, tieRank, rankSpan, rank}
+use Rattle.stickers.specs.HowSummed.{TintCodes}
+use Rattle.stickers.specs.HowTaken.{tieRank, rankSpan, rank}
 use Rattle.stickers.proofs.Nearest.{winner-is, winners-below, tint-codes}
 use Rattle.stickers.proofs.Blocks.{last-or-before}
 

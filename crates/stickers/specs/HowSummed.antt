@@ -1,7 +1,7 @@
--- How the code goes about the sums of all choices: in blocks of pixels, with a row of distances for each tint, and from choice to choice;
--- and about the tint of a pixel: by rank. The proofs show that this comes to the sums and the tints of Choices.
+-- How the code goes about the sums of all choices: in blocks of pixels, with a row of distances for each tint, and from choice to choice.
+-- The proofs show that this comes to the sums of Choices.
 -- Assumes nothing.
-use Prim.Native.Nat.{ℕ, zero, suc, _+_, _-_, _*_, _^_, _≤_, _<_, min}
+use Prim.Native.Nat.{ℕ, zero, suc, _+_, _-_, _*_, _≤_, _<_, min}
 use mathlib.Core.Path.{_≡_}
 use mathlib.Core.Bool.{cond}
 use mathlib.Core.List.{List}
@@ -12,7 +12,7 @@ use Rattle.samples.specs.Samples.{noPixel}
 use Rattle.esrgb.specs.Depths.{greatest}
 use Rattle.stickers.specs.declared.Four.{Four}
 use Rattle.stickers.specs.declared.Summed.{Summed}
-use Rattle.stickers.specs.Distances.{away, tintLuma}
+use Rattle.stickers.specs.Distances.{away}
 use Rattle.stickers.specs.Choices.{tintCount, tintCodes, four, choices, firstChoice, best, lookedAt}
 
 -- Codes of 12 bits.
@@ -88,19 +88,3 @@ SumsOf sum limit sums = (k : ℕ) → k < limit → getD sums k 0 ≡ sum (getD 
 pub record BestOf (sum : Four → ℕ) (limit : ℕ) (r : Summed) : Type 0 where
   pub four : r .four ≡ best sum (lookedAt limit)
   pub summed : r .sum ≡ sum (r .four)
-
--- What decides between tints that are as near: the luma of tint t and, behind it, its number.
-unfoldable pub tieRank : List ℕ → ℕ → ℕ
-tieRank tints t = tintCount * tintLuma tints t + t
-
--- So many of them there are: one for each luma and number.
-abbrev pub rankSpan : ℕ
-rankSpan = tintCount * 2 ^ 12
-
--- What is compared to find a pixel's tint: the distance of tint t and, behind it, what decides a tie. The least is that of the tint taken.
-unfoldable pub rank : List ℕ → Pixel → ℕ → ℕ
-rank tints p t = rankSpan * away tints p t + tieRank tints t
-
--- What decides ties, worked out for all tints.
-abbrev pub TieRanks : List ℕ → List ℕ → Type 0
-TieRanks tints ranks = (t : ℕ) → t < tintCount → getD ranks t 0 ≡ tieRank tints t

@@ -3,3 +3,4 @@ pub mod Choices
 pub mod Stickers
 pub mod Promise
 pub mod HowSummed
+pub mod HowTaken

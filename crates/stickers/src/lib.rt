@@ -22,7 +22,8 @@ ghost use Rattle.stickers.specs.Distances.{tint, apart, away, tintLuma, 
 ghost use Rattle.stickers.specs.Choices.{tintCount, tintCodes, four, choices, tintOf, sumOf, leastOfAll, sumOfAll, choiceOf};
 ghost use Rattle.stickers.specs.Stickers.{pictureSays, tintsSay, mostPixels, workSays, requestSays, pictureOf, chosenSaid, stickersSays, stickers};
 ghost use Rattle.stickers.specs.Promise.{Ascending, Promised};
-ghost use Rattle.stickers.specs.HowSummed.{AllCodes, TintCodes, CodePixel, after, blockSize, entryCount, mostEntry, rowOf, Column, BlockOf, rowSum, fourSum, Added, SumsOf, BestOf, tieRank, rank, TieRanks};
+ghost use Rattle.stickers.specs.HowSummed.{AllCodes, TintCodes, CodePixel, after, blockSize, entryCount, mostEntry, rowOf, Column, BlockOf, rowSum, fourSum, Added, SumsOf, BestOf};
+ghost use Rattle.stickers.specs.HowTaken.{tieRank, rank, TieRanks};
 
 // Four tints by number, ascending.
 pub struct Four {

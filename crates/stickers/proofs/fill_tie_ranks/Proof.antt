@@ -6,7 +6,7 @@ use native.Mathlib.Omega.{arith}
 use denote.Ref.{now}
 use lib.ListN.{length, getD, length-set}
 use Rattle.stickers.specs.Choices.{tintCount}
-use Rattle.stickers.specs.HowSummed.{tieRank}
+use Rattle.stickers.specs.HowTaken.{tieRank}
 use Rattle.stickers.proofs.Ranks.{filled-more}
 use borrow.Author.Needs.{needs}
 use Rattle.stickers.proofs.fill_tie_ranks.Statement.{statement}

@@ -4,7 +4,7 @@ use Prim.Native.Nat.{_<_}
 use native.Mathlib.Omega.{arith}
 use denote.Ref.{now}
 use lib.ListN.{getD}
-use Rattle.stickers.specs.HowSummed.{rankSpan, rank}
+use Rattle.stickers.specs.HowTaken.{rankSpan, rank}
 use Rattle.stickers.proofs.Ranks.{tie-rank-small}
 use borrow.Author.Needs.{needs}
 use Rattle.stickers.proofs.rank_of.Statement.{statement}

@@ -4,7 +4,7 @@ use Prim.Native.Nat.{_≤_}
 use native.Mathlib.Omega.{arith}
 use denote.Ref.{now}
 use Rattle.esrgb.specs.Depths.{greatest}
-use Rattle.stickers.specs.HowSummed.{tieRank}
+use Rattle.stickers.specs.HowTaken.{tieRank}
 use Rattle.stickers.proofs.Ranks.{luma-small}
 use borrow.Author.Needs.{needs}
 use Rattle.stickers.proofs.tie_rank.Statement.{statement}

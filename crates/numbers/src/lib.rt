@@ -1,7 +1,7 @@
 // Whole numbers: how a quotient is rounded, how a number stands in bytes, how many elements of a list pass a
-// test, sums and differences that stop at the ends of 16 bits, and the greatest of many. The definitions of
-// specs/ and the laws of proofs/ are what the crates above use; the functions take and give single numbers, so
-// that they need no bound on an index and ask nothing of a caller.
+// test, sums and differences that stop at the ends of 16 bits, the lower of two and the greatest of many. The
+// definitions of specs/ and the laws of proofs/ are what the crates above use; the functions take and give
+// single numbers, so that they need no bound on an index and ask nothing of a caller.
 ghost use mathlib.Core.Path.{_≡_};
 ghost use mathlib.Core.List.{[], _∷_};
 ghost use Prim.Native.Nat.{_+_, _-_, min, max};
@@ -69,6 +69,12 @@ pub fn saturating_add(x: u16, y: u16) -> u16
     ensures { λ r. ⌜ r ≡ min 65535 (x + y) ⌝ }
 {
     if 65535 - y < x { 65535 } else { x + y }
+}
+
+pub fn lower(x: u32, y: u32) -> u32
+    ensures { λ r. ⌜ r ≡ min x y ⌝ }
+{
+    if x < y { x } else { y }
 }
 
 // The greatest so far, and one number more. Processors have an instruction for the greater of several pairs of

@@ -4,6 +4,7 @@
 // sum; it asks nothing of a caller.
 use esrgb::Depth;
 use lumachroma::to_luma_chroma;
+use numbers::lower;
 use refusal::Answer;
 use refusal::Refusal;
 use samples::Pixel;
@@ -455,12 +456,6 @@ fn rank_of(tints: &[u16; TINT_CODES], ranks: &[u16; TINTS], pixel: Pixel, t: u8)
     ensures { λ r. ⌜ r ≡ rank (now (tints .entry)) pixel t ⌝ }
 {
     RANK_SPAN * (distance_to(tints, pixel, t as usize) as u32) + (ranks[t as usize] as u32)
-}
-
-fn lower(x: u32, y: u32) -> u32
-    ensures { λ r. ⌜ r ≡ min x y ⌝ }
-{
-    if x < y { x } else { y }
 }
 
 // The tint that a pixel takes of the four.

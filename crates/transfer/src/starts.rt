@@ -1,8 +1,8 @@
 // Where the search for a level starts, by group of lights: the 12-bit level of the group's first light.
 // Every entry is proved to leave few levels, at 10 bits and at 12. The numbers can be made again by taking
 // the level that specs/Level.antt defines for the first light of each group.
+use numbers::lower;
 ghost use mathlib.Core.Path.{_≡_};
-ghost use Prim.Native.Nat.{min};
 ghost use Rattle.transfer.specs.HowTabled.{groupOf, StartTable};
 
 const LAST_GROUP: u32 = 1267;
@@ -1289,11 +1289,5 @@ pub fn start_table() -> [u16; 1268]
 pub fn group_of(light: u32) -> usize
     ensures { λ r. ⌜ r ≡ groupOf light ⌝ }
 {
-    lesser(lesser(light / 256, 448 + light / 2048), LAST_GROUP) as usize
-}
-
-fn lesser(a: u32, b: u32) -> u32
-    ensures { λ r. ⌜ r ≡ min a b ⌝ }
-{
-    if a < b { a } else { b }
+    lower(lower(light / 256, 448 + light / 2048), LAST_GROUP) as usize
 }

@@ -4,14 +4,14 @@ use borrow.Author.Needs.{needs}
 use Rattle.transfer.proofs.starts.group_of.Statement.{statement}
 use Rattle.transfer.proofs.starts.group_of.Tie as tie
 
-add-lesser : tie.Need-add-lesser
-add-lesser c = search needs
+add-lower : tie.Need-add-lower
+add-lower c = search needs
 
-lesser-requires : tie.Need-lesser-requires
-lesser-requires c κs = search needs
+lower-requires : tie.Need-lower-requires
+lower-requires c κs = search needs
 
-lesser-requires-2 : tie.Need-lesser-requires-2
-lesser-requires-2 c κs = search needs
+lower-requires-2 : tie.Need-lower-requires-2
+lower-requires-2 c κs = search needs
 
 cast-result : tie.Need-cast-result
 cast-result c = search needs
@@ -21,4 +21,4 @@ returns c = search needs
 
 pub group-of-spec : {M : Type 1} → statement M
 group-of-spec =
-    tie.close (tie.spec add-lesser lesser-requires lesser-requires-2 cast-result returns)
+    tie.close (tie.spec add-lower lower-requires lower-requires-2 cast-result returns)

@@ -1,6 +1,8 @@
 // Doubles: whether one is finite, and the whole number nearest to it. Both promise it of every double, the
 // infinite ones and what is not a number too: the first is the logic's own `finite`, the second stands in
 // specs/Doubles.antt. Nothing is rounded on the way.
+#![tactic(auto)]
+
 ghost use Rattle.std.specs.Prelude.{◌≡◌};
 ghost use Rattle.std.specs.Float.Ieee.Scale.{finite};
 ghost use Rattle.doubles.specs.Doubles.{nearest_whole};
@@ -27,7 +29,7 @@ pub fn nearest_whole(x: f64, below: u32, above: u32) -> i64
 }
 
 // Where a number halfway between two whole numbers goes.
-#[derive(Drop)]
+#[derive(Clone, Copy)]
 enum Ties {
     Up,
     Down,

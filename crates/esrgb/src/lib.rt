@@ -1,6 +1,8 @@
 // e-sRGB codes, one sample at a time (rules, section 1): the depths that are offered, sRGB to e-sRGB and
 // back, which codes sRGB cannot hold, and one depth to another. It promises that a rule computes the
 // definition of its depth, for every sample.
+#![tactic(auto)]
+
 ghost use Rattle.std.specs.Prelude.{◌≡◌};
 ghost use Rattle.esrgb.specs.Depths.{bits, Names, greatest, step};
 ghost use Rattle.esrgb.specs.Codes.{from_srgb, to_srgb};
@@ -9,7 +11,7 @@ ghost use Rattle.esrgb.specs.HowApplied.{applied, line_of, cut_of, gamut_of, abo
 use numbers::{excess, saturating_add};
 
 // A depth of e-sRGB.
-#[derive(Drop)]
+#[derive(Clone, Copy)]
 pub enum Depth {
     Ten,
     Twelve,
@@ -17,7 +19,7 @@ pub enum Depth {
 }
 
 // What a number of bits names.
-#[derive(Drop)]
+#[derive(Clone, Copy)]
 pub enum Offer {
     Offered(Depth),
     NotOffered,
@@ -69,7 +71,7 @@ pub fn greatest_of(depth: Depth) -> u16
 
 // What is done to each sample of a picture. The numbers of a depth are worked out once, before the
 // loop, and the loop's arithmetic is on 16 bits, so that a compiler can do several samples at once.
-#[derive(Drop)]
+#[derive(Clone, Copy)]
 pub enum SampleRule {
     Affine(Line),
     ToEight(Cut),
@@ -77,21 +79,21 @@ pub enum SampleRule {
 }
 
 // factor * sample + offset, in 16 bits.
-#[derive(Drop)]
+#[derive(Clone, Copy)]
 pub struct Line {
     pub factor: u16,
     pub offset: u16,
 }
 
 // (sample - low) / 2^shift, from 0 to 255.
-#[derive(Drop)]
+#[derive(Clone, Copy)]
 pub struct Cut {
     pub low: u16,
     pub shift: u16,
 }
 
 // (sample + lift) / 2^shift - base, in 16 bits, where the sum is at most 65,535.
-#[derive(Drop)]
+#[derive(Clone, Copy)]
 pub struct Rounding {
     pub lift: u16,
     pub shift: u16,
@@ -148,7 +150,7 @@ pub fn cut_of(depth: Depth) -> Cut
 }
 
 // The codes that sRGB holds: from the lowest on, up to a span above it.
-#[derive(Drop)]
+#[derive(Clone, Copy)]
 pub struct Gamut {
     pub lowest: u16,
     pub span: u16,
@@ -180,7 +182,7 @@ pub fn is_outside(gamut: Gamut, code: u16) -> bool
 }
 
 // The rule from one depth to another: by a factor, or to the nearest code.
-#[derive(Drop)]
+#[derive(Clone, Copy)]
 pub enum DepthChange {
     Up(Line),
     Down(Rounding),
@@ -216,7 +218,7 @@ pub fn from_srgb(depth: Depth, value: u8) -> u16
 }
 
 // A code as a value of sRGB, and whether it is a code that sRGB cannot hold.
-#[derive(Drop)]
+#[derive(Clone, Copy)]
 pub struct SrgbSample {
     pub value: u8,
     pub clipped: bool,

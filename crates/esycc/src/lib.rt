@@ -1,6 +1,8 @@
 // e-sYCC and 8-bit sYCC of one pixel of e-sRGB codes, and the ways back (rules, section 12; PIMA 7667,
 // annexes B and C). It promises the three numbers of the definitions for every pixel of 16-bit samples, so
 // that it asks nothing of a caller.
+#![tactic(auto)]
+
 ghost use Rattle.std.specs.Prelude.{◌≡◌, ◌+◌, ◌-◌, ◌*◌, ◌/◌, ◌≤◌, ◌<◌, min, max};
 ghost use Rattle.esrgb.specs.Depths.{bits, greatest, middle, offset, step};
 ghost use Rattle.esycc.specs.Esycc.{weighted, to_esycc, from_esycc};
@@ -13,7 +15,7 @@ use samples::Pixel;
 // ---- sums and codes
 
 // The three channels of a pixel, not yet clipped.
-#[derive(Drop)]
+#[derive(Clone, Copy)]
 struct Sums {
     first: u32,
     second: u32,
@@ -80,7 +82,7 @@ const MOST_SUM: u64 = 65535000;
 const MOST_DIFFERENCE: u32 = 58064010;
 
 // What luma and the chromas are multiplied by, in units.
-#[derive(Drop)]
+#[derive(Clone, Copy)]
 struct Factors {
     luma: u64,
     cb: u64,
@@ -206,7 +208,7 @@ const BACK_ALLOWANCE: u64 = 524288;
 const BACK_START: u64 = (BACK_LIFT as u64) * BACK_UNIT + BACK_UNIT / 2 + BACK_ALLOWANCE;
 
 // A channel's start, and its shares of the chromas.
-#[derive(Drop)]
+#[derive(Clone, Copy)]
 struct Row {
     start: u64,
     cb: u64,
@@ -214,7 +216,7 @@ struct Row {
 }
 
 // The share of luma, and the rows of the channels.
-#[derive(Drop)]
+#[derive(Clone, Copy)]
 struct Rows {
     luma: u64,
     red: Row,

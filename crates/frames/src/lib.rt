@@ -1,5 +1,7 @@
 // The frames of a spool one after another (rule 7.7): document 01's walker. It promises that each step
 // gives what finding the frame gives, and the number of the frame to come; it asks nothing of a caller.
+#![tactic(auto)]
+
 ghost use Rattle.std.specs.Prelude.{◌≡◌};
 ghost use Rattle.spool.specs.Find.{find_said, find_says};
 ghost use Rattle.frames.specs.Walk.{next_number, started, IsStep};
@@ -23,7 +25,7 @@ fn next_number(file: &[u8], number: usize) -> usize
 }
 
 // What is found at a number, and the number of the frame to look for next.
-#[derive(Drop)]
+#[derive(Clone, Copy)]
 pub struct Visit {
     pub found: Found,
     pub next: usize,
@@ -39,21 +41,21 @@ fn visit_at(file: &[u8], number: usize) -> Visit
 }
 
 // A walk over the frames of a spool: the file, and the number of the frame to come.
-#[derive(Drop)]
+#[derive(Clone, Copy)]
 pub struct Frames<'a> {
     pub file: &'a [u8],
     pub next: usize,
 }
 
 // A frame as a step gives it: its pixels in the lent file, and what was found.
-#[derive(Drop)]
+#[derive(Clone, Copy)]
 pub struct FoundFrame<'a> {
     pub pixels: &'a [u8],
     pub found: Found,
 }
 
 // What a step gives: the frame, and the frames that are left.
-#[derive(Drop)]
+#[derive(Clone, Copy)]
 pub struct Stepped<'a> {
     pub frame: FoundFrame<'a>,
     pub rest: Frames<'a>,

@@ -1,6 +1,8 @@
 // The C interface: every operation of the library under a C name, over numbers and slices, for
 // include/kiosk.h. It promises that C gets exactly what the operation says, as a count or minus the
 // refusal's number, and exactly its bytes and counts; it asks nothing of a caller that C's types do not say.
+#![tactic(auto)]
+
 ghost use Rattle.std.specs.Prelude.{◌≡◌, ◌≤◌, length, get_or, take};
 ghost use Rattle.refusal.specs.Refusals.{number_of};
 ghost use Rattle.refusal.specs.Answers.{said, leaves};
@@ -348,7 +350,7 @@ pub extern "C" fn kiosk_round_trip(
 }
 
 // An answer as C gets it, with the place behind it.
-#[derive(Drop)]
+#[derive(Clone, Copy)]
 struct AnswerAndPlace {
     answer: i64,
     place: usize,

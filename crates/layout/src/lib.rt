@@ -1,6 +1,8 @@
 // Laying out a spool (rule 7.8) from a lent list of records: a pass over them that checks, the header, and
 // a pass that writes. It promises the refusals in the rule's order, and every byte of the destination; it
 // asks nothing of a caller. The steps of a pass take either layout; `lay_out` itself writes plain spools.
+#![tactic(auto)]
+
 ghost use Rattle.std.specs.Prelude.{◌≡◌, false, ◌≤◌, length};
 ghost use Rattle.records.specs.Faults.{frame_limit};
 ghost use Rattle.records.specs.Pixels.{pixel_bytes};
@@ -62,7 +64,7 @@ fn write_record(
 
 // How far a pass over the records has come: whether it writes, its answer so far, which is the offset
 // behind the pixels placed so far where nothing was refused, and the layout that it lays out.
-#[derive(Drop)]
+#[derive(Clone, Copy)]
 pub struct Progress {
     pub writing: bool,
     pub answer: Answer,

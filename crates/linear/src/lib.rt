@@ -2,6 +2,8 @@
 // and such numbers to codes of 10 and 12 bits. For every input it promises the answer and every number or
 // byte of the destination, by what `transfer` defines for one sample, and asks nothing of a caller.
 // `moved` takes codes through light that is moved (rule 6.12).
+#![tactic(auto)]
+
 pub mod moved;
 
 ghost use Rattle.std.specs.Prelude.{◌≡◌, true, cond, map, ℕ, ◌+◌, ◌-◌, ◌*◌, ◌/◌, ◌^◌, ◌≤◌, ◌<◌, min, length, get_or, leb, nat_abs};
@@ -261,7 +263,7 @@ fn passed(count: usize, threshold: u32, light: u32) -> usize
 // ---- single samples
 
 // The light of a code, or why it has none.
-#[derive(Drop)]
+#[derive(Clone, Copy)]
 pub enum LightFound {
     Light(i32),
     Refused(Refusal),
@@ -289,7 +291,7 @@ fn light_at(depth: Depth, code: u16) -> LightFound
 }
 
 // The code of a light, or why it has none.
-#[derive(Drop)]
+#[derive(Clone, Copy)]
 pub enum CodeFound {
     Code(u16),
     Refused(Refusal),

@@ -1,13 +1,15 @@
 // Lists the spool on standard input: `listing` makes the text, and this program reads and writes.
 // It reads one byte more than is listed, so that a file that is too long is seen to be. Where it cannot
 // read or write, it says so on standard error; the language has no exit status.
+#![tactic(auto)]
+
 ghost use Rattle.std.specs.Prelude.{◌≤◌, length};
 
 use libc::{STDERR_FILENO, STDIN_FILENO, STDOUT_FILENO};
 use listing::{INPUT_LIMIT, LISTING_ROOM, write_whole_listing};
 
 // What reading gives: how many bytes there are, and whether that is all of the input that fits.
-#[derive(Drop)]
+#[derive(Clone, Copy)]
 struct Input {
     length: usize,
     is_whole: bool,

@@ -1,6 +1,8 @@
 // The listing of a spool as text (rules, section 9), written into a lent buffer. It promises every byte
 // of the listing for any file; it asks nothing of a caller. A buffer that is too small gets as much of
 // the text as it has room for; one of LISTING_ROOM bytes gets all of it.
+#![tactic(auto)]
+
 ghost use Rattle.std.specs.Prelude.{◌≡◌, [], ◌∷◌, ◌++◌, ◌+◌, ◌≤◌, length, take};
 ghost use Rattle.refusal.specs.Answers.{sound};
 ghost use Rattle.records.specs.Layout.{header_of};

@@ -1,6 +1,8 @@
 // Luma and chroma of one pixel, and the way back (rules, section 2), with BT.601-5's luma weights. It
 // promises the three numbers of the definitions for every pixel of 16-bit samples, so that it asks
 // nothing of a caller.
+#![tactic(auto)]
+
 ghost use Rattle.std.specs.Prelude.{◌≡◌, eqb, ◌+◌, ◌-◌, ◌*◌, ◌/◌, ◌%◌, ◌^◌, ◌≤◌, ◌<◌, min};
 ghost use Rattle.esrgb.specs.Depths.{bits, middle};
 ghost use Rattle.lumachroma.specs.LumaChroma.{luma, blue_chroma, red_chroma, to_luma_chroma, to_rgb};
@@ -194,7 +196,7 @@ const GREEN_OF_CB: u64 = 23648865513;
 const GREEN_OF_CR: u64 = 49075071905;
 
 // Where the sums of a depth start, with the shares of its middle code, from which a chroma is counted.
-#[derive(Drop)]
+#[derive(Clone, Copy)]
 struct Starts {
     red: u64,
     green: u64,

@@ -2,6 +2,8 @@
 // test, sums and differences that stop at the ends of 16 bits, the lower of two and the greatest of many. The
 // definitions of specs/ and the laws of proofs/ are what the crates above use; the functions take and give
 // single numbers, so that they need no bound on an index and ask nothing of a caller.
+#![tactic(auto)]
+
 ghost use Rattle.std.specs.Prelude.{◌≡◌, [], ◌∷◌, ◌+◌, ◌-◌, min, max};
 ghost use Rattle.numbers.specs.Bytes.{little_endian, low_bytes};
 ghost use Rattle.numbers.specs.HowRanked.{rank};
@@ -21,7 +23,7 @@ pub fn from_four(a: u8, b: u8, c: u8, d: u8) -> u32
 }
 
 // The two bytes of a number.
-#[derive(Drop)]
+#[derive(Clone, Copy)]
 pub struct TwoBytes {
     pub low: u8,
     pub high: u8,
@@ -37,7 +39,7 @@ pub fn two_bytes(v: u16) -> TwoBytes
 }
 
 // The four bytes of a number, the lowest first.
-#[derive(Drop)]
+#[derive(Clone, Copy)]
 pub struct FourBytes {
     pub a: u8,
     pub b: u8,

@@ -1,6 +1,8 @@
 // Convert: pictures in byte buffers, from one form to another (rules, section 4). It promises the answer,
 // every byte and how many pixels sRGB clips, for any buffers and any depths: a refused call changes nothing,
 // and an accepted one leaves the source's pixels, converted one by one.
+#![tactic(auto)]
+
 ghost use Rattle.std.specs.Prelude.{◌≡◌, true, false, [], ◌∷◌, ◌++◌, map, ◌*◌, ◌+◌, ◌≤◌, min, length, take};
 ghost use Rattle.numbers.specs.Counting.{how_many};
 ghost use Rattle.refusal.specs.Answers.{said, leaves};
@@ -20,7 +22,7 @@ use refusal::{Answer, Refusal};
 use samples::{Coding, Pixel};
 
 // The conversions of rule 4.1. A depth may be any number; rule 1.1 says which are offered.
-#[derive(Drop)]
+#[derive(Clone, Copy)]
 pub enum Conversion {
     FromSrgb { depth: u32 },
     ToSrgb { depth: u32 },
@@ -198,7 +200,7 @@ fn fill_srgb(depth: Depth, src: &[u8], dst: &mut [u8]) -> usize
 
 // What is done to each pixel of a picture. The depth stands apart, so that each loop has its rule as a
 // constant.
-#[derive(Drop)]
+#[derive(Clone, Copy)]
 pub enum PixelRule {
     ToLumaChroma,
     FromLumaChroma,
@@ -368,7 +370,7 @@ fn fill_by_rule(rule: PixelRule, depth: Depth, src: &[u8], dst: &mut [u8])
 // ---- the plan of a conversion
 
 // The loop to run, with its numbers.
-#[derive(Drop)]
+#[derive(Clone, Copy)]
 pub enum Work {
     Widen(Line),
     Narrow(Depth),
@@ -387,7 +389,7 @@ fn codes(depth: Depth, chroma: bool) -> Coding
 }
 
 // What a rule for pixels reads, and whether it writes wide samples.
-#[derive(Drop)]
+#[derive(Clone, Copy)]
 pub struct Sides {
     pub reads: Coding,
     pub wide: bool,
@@ -437,7 +439,7 @@ fn writes_wide(work: Work) -> bool
 }
 
 // A conversion whose depths are offered: what its source may be, and the loop.
-#[derive(Drop)]
+#[derive(Clone, Copy)]
 pub enum Plan {
     Run(Coding, Work),
     NotOffered,
@@ -516,7 +518,7 @@ fn fill(work: Work, src: &[u8], dst: &mut [u8]) -> usize
 
 // What Convert gives: its answer and, of e-sRGB to sRGB, how many pixels have a colour that sRGB cannot hold
 // (rule 4.6). It is 0 of every other conversion, and if the call is refused.
-#[derive(Drop)]
+#[derive(Clone, Copy)]
 pub struct Converted {
     pub answer: Answer,
     pub clipped: usize,

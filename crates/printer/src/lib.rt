@@ -1,6 +1,8 @@
 // A printer that eight kiosks share (rules, section 14), turn by turn: prints arrive, and one is made for the next
 // kiosk in turn that has some waiting. For every list of arrivals and every number of turns it promises the answer and
 // every byte, that no print is lost, and that no kiosk waits for more than eight turns; it asks nothing of a caller.
+#![tactic(auto)]
+
 ghost use Rattle.std.specs.Prelude.{◌≡◌, ℕ, ◌+◌, ◌<◌, length, get_or};
 ghost use Rattle.refusal.specs.Answers.{said, accepted, leaves};
 ghost use Rattle.printer.specs.Arrivals.{no_arrival, arrivals, kiosk_count, keeps_limits, simulation_says};
@@ -11,7 +13,7 @@ ghost use Rattle.printer.specs.HowRun.{Ready, Servable};
 use refusal::{Answer, Refusal};
 
 // Prints that come for a kiosk at the start of a turn.
-#[derive(Drop)]
+#[derive(Clone, Copy)]
 pub struct Arrival {
     pub turn: u32,
     pub kiosk: u32,
@@ -179,7 +181,7 @@ fn serve(k: u8, first: usize, waiting: &mut [u32; KIOSKS]) -> usize
 
 // What a turn gives: the kiosk that is served, the kiosk that the next turn looks at first, and the number of the
 // arrival that is to come next.
-#[derive(Drop)]
+#[derive(Clone, Copy)]
 struct Turn {
     byte: u8,
     first: usize,

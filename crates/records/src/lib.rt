@@ -2,6 +2,8 @@
 // and written as bytes, what a record may say, and how many there may be. It promises every number and every
 // byte of rule 7.2's layouts, its limit of frames, and the refusals of a record by rules 7.3 and 7.4; it asks
 // nothing of a caller.
+#![tactic(auto)]
+
 ghost use Rattle.std.specs.Prelude.{◌≡◌, ◌+◌, ◌≤◌, length, take, drop, ltb};
 ghost use Rattle.esrgb.specs.Depths.{offered};
 ghost use Rattle.numbers.specs.Bytes.{little_endian};
@@ -36,14 +38,14 @@ pub const FRAME_LIMIT: usize = 96;
 const SIDE_LIMIT: u16 = 8192;
 
 // The two layouts of a spool. The records of a strided one say how far it is from row to row.
-#[derive(Drop)]
+#[derive(Clone, Copy)]
 pub enum Layout {
     Plain,
     Strided,
 }
 
 // The header's numbers. `size` is that of a record, which a plain header does not say.
-#[derive(Drop)]
+#[derive(Clone, Copy)]
 pub struct Header {
     pub count: u16,
     pub shop: u16,
@@ -54,7 +56,7 @@ pub struct Header {
 
 // A frame's record, its numbers in the order in which they stand in the file.
 #[repr(C)]
-#[derive(Drop)]
+#[derive(Clone, Copy)]
 pub struct FrameRecord {
     pub offset: u32,
     pub width: u16,
@@ -66,7 +68,7 @@ pub struct FrameRecord {
 }
 
 // A record with its stride, document 02's row step: the bytes from the start of a row to that of the next.
-#[derive(Drop)]
+#[derive(Clone, Copy)]
 pub struct StridedRecord {
     pub frame: FrameRecord,
     pub stride: u32,
@@ -190,7 +192,7 @@ fn size_in(layout: Layout, bytes: &[u8]) -> u16
 }
 
 // A header that was asked for, or too few bytes for one.
-#[derive(Drop)]
+#[derive(Clone, Copy)]
 pub enum HeaderRead {
     Header(Header),
     Short,
@@ -250,7 +252,7 @@ fn record_in(layout: Layout, bytes: &[u8]) -> StridedRecord
 }
 
 // A record that was asked for, or too few bytes for one.
-#[derive(Drop)]
+#[derive(Clone, Copy)]
 pub enum RecordRead {
     Record(StridedRecord),
     Short,

@@ -1,11 +1,13 @@
 // Refusals and answers: each refusal under a name, its number, and the three shapes that the answer
 // of an operation on buffers has. It promises that a refusal has the number of section 8 of the
 // rules.
+#![tactic(auto)]
+
 ghost use Rattle.std.specs.Prelude.{◌≡◌};
 ghost use Rattle.refusal.specs.Refusals.{number_of};
 
 // Why an operation refuses, in the order of the numbers: document 01's "turned away".
-#[derive(Drop)]
+#[derive(Clone, Copy)]
 pub enum Refusal {
     // 1: a spool shorter than its header.
     TooShort,
@@ -84,14 +86,14 @@ pub fn number(refusal: Refusal) -> u8
 }
 
 // What a check finds: nothing wrong, or why something is refused.
-#[derive(Drop)]
+#[derive(Clone, Copy)]
 pub enum Checked {
     Sound,
     Faulty(Refusal),
 }
 
 // What an operation on buffers answers.
-#[derive(Drop)]
+#[derive(Clone, Copy)]
 pub enum Answer {
     // Accepted: the count or the length that the operation gives.
     Done(usize),

@@ -2,6 +2,8 @@
 // out as `layout` does, and the pixels are copied. It promises the refusals in the rule's order, every byte of
 // the destination, and that each frame keeps its record and its rows, there and back; it asks nothing of a
 // caller.
+#![tactic(auto)]
+
 ghost use Rattle.std.specs.Prelude.{◌≡◌, false, ℕ, ◌+◌, ◌≤◌, ◌<◌, length};
 ghost use Rattle.refusal.specs.Answers.{sound, accepted, said, leaves};
 ghost use Rattle.records.specs.Layout.{header_of};

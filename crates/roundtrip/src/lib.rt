@@ -2,6 +2,8 @@
 // `specs/Agreement.antt` states it of every picture and the whole chain of Convert's calls, and
 // `proofs/Demand.antt` proves it. The two functions here make those calls, in buffers that the caller
 // lends, and promise the same.
+#![tactic(auto)]
+
 ghost use Rattle.refusal.specs.Answers.{said};
 ghost use Rattle.roundtrip.specs.Programs.{Trip, BothRuns};
 
@@ -9,7 +11,7 @@ use picture::{Conversion, Converted};
 use refusal::Answer;
 
 // The answers of the two calls.
-#[derive(Drop)]
+#[derive(Clone, Copy)]
 pub struct TripAnswers {
     pub there: Answer,
     pub again: Answer,
@@ -26,7 +28,7 @@ pub fn round_trip(depth: u32, codes: &[u8], ycc: &mut [u8], back: &mut [u8]) -> 
 }
 
 // What the five calls give, in their order. Those to sRGB also count the pixels that they clip.
-#[derive(Drop)]
+#[derive(Clone, Copy)]
 pub struct RunAnswers {
     pub made: Answer,
     pub there: Answer,

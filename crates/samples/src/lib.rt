@@ -1,6 +1,8 @@
 // Samples in pixel buffers: one or two bytes each, three to a pixel; and what an operation says of a
 // source and of the room for its result. It promises the refusals and places of rules 4.2 and 4.3, for
 // any buffer and any limit, and asks nothing of a caller.
+#![tactic(auto)]
+
 ghost use Rattle.std.specs.Prelude.{◌≡◌, true, false, ◌/◌, ◌*◌, ◌+◌, ◌<◌, eqb, length, get_or};
 ghost use Rattle.refusal.specs.Answers.{verdict, said, accepted, refuses_or};
 ghost use Rattle.samples.specs.Samples.{sample_count, sample_size, pixel_size, two_by_two, samples_of, no_pixel, read};
@@ -66,7 +68,7 @@ pub fn sample(src: &[u8], wide: bool, k: usize) -> u16
 }
 
 // A pixel: three samples, in the order of the buffer.
-#[derive(Drop)]
+#[derive(Clone, Copy)]
 pub struct Pixel {
     pub first: u16,
     pub second: u16,
@@ -96,7 +98,7 @@ pub fn pixel_at(src: &[u8], wide: bool, i: usize) -> Pixel
 // ---- the first sample at fault
 
 // What the samples of a source may be: any bytes, or codes, where a chroma of 0 may be at fault.
-#[derive(Drop)]
+#[derive(Clone, Copy)]
 pub enum Coding {
     Bytes,
     Codes { greatest: u16, chroma: bool },

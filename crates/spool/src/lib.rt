@@ -1,6 +1,8 @@
 // Opening a spool file of either layout, finding a frame in it, and the rows of a frame (rules 7.5, 7.6 and
 // 7.9). It promises the refusals in their order for any bytes at all, every field of what it reads, and where
 // in the lent file a frame's pixels and its rows lie; it asks nothing of a caller.
+#![tactic(auto)]
+
 ghost use Rattle.std.specs.Prelude.{◌≡◌};
 ghost use Rattle.refusal.specs.Answers.{verdict};
 ghost use Rattle.spool.specs.Open.{header_fault, open_said, open_says};
@@ -14,14 +16,14 @@ use records::{
 use refusal::{Checked, Refusal};
 
 // What an open spool holds.
-#[derive(Drop)]
+#[derive(Clone, Copy)]
 pub struct Contents {
     pub count: u16,
     pub shop: u16,
     pub table: u32,
 }
 
-#[derive(Drop)]
+#[derive(Clone, Copy)]
 pub enum Opened {
     Spool(Contents),
     Refused(Refusal),
@@ -71,7 +73,7 @@ pub fn open(file: &[u8]) -> Opened
 }
 
 // What finding a frame gives.
-#[derive(Drop)]
+#[derive(Clone, Copy)]
 pub enum Found {
     Frame(StridedRecord),
     Refused(Refusal),
@@ -150,7 +152,7 @@ pub fn pixels(file: &[u8], number: usize) -> &[u8]
 }
 
 // A part of a file: where it starts, and how many bytes it has.
-#[derive(Drop)]
+#[derive(Clone, Copy)]
 pub struct Extent {
     pub start: usize,
     pub length: usize,

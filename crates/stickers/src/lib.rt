@@ -2,6 +2,8 @@
 // which of them each pixel takes, the darkest of those nearest to it. For every picture, tints, budget and
 // destination it promises the answer and every byte, and that no other choice that was looked at has a smaller
 // sum; it asks nothing of a caller.
+#![tactic(auto)]
+
 ghost use Rattle.std.specs.Prelude.{◌≡◌, cond, map, ℕ, ◌+◌, ◌*◌, ◌^◌, ◌≤◌, ◌<◌, min, ltb, length, get_or, drop};
 ghost use Rattle.refusal.specs.Answers.{Said, said, refused_at, leaves};
 ghost use Rattle.samples.specs.Samples.{two_by_two};
@@ -19,7 +21,7 @@ use refusal::{Answer, Refusal};
 use samples::{Pixel, judge, pixel_at, whole_pixels};
 
 // Four tints by number, ascending.
-#[derive(Drop)]
+#[derive(Clone, Copy)]
 pub struct Four {
     pub first: u8,
     pub second: u8,
@@ -29,7 +31,7 @@ pub struct Four {
 
 // What an accepted picture gets: the four chosen and their sum, how many choices were looked at, and the sum with
 // all tints.
-#[derive(Drop)]
+#[derive(Clone, Copy)]
 pub struct Choice {
     pub four: Four,
     pub sum: u32,
@@ -37,7 +39,7 @@ pub struct Choice {
     pub least: u32,
 }
 
-#[derive(Drop)]
+#[derive(Clone, Copy)]
 pub enum Chosen {
     Accepted(Choice),
     Refused(Refusal),
@@ -356,7 +358,7 @@ fn add_picture(
 // ---- the choice
 
 // A choice with its sum.
-#[derive(Drop)]
+#[derive(Clone, Copy)]
 struct Summed {
     four: Four,
     sum: u32,

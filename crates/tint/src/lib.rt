@@ -1,6 +1,8 @@
 // Brand tints (rules, section 11): a colour as 8-bit values, nonlinear numbers or light becomes a pixel of
 // 12-bit e-sRGB. For every tint it promises the pixel, or 17 and the channel that is not finite, and asks
 // nothing of a caller.
+#![tactic(auto)]
+
 ghost use Rattle.std.specs.Prelude.{◌≡◌};
 ghost use Rattle.tint.specs.Tints.{nonlinear_code, light_number, first_fault, tint_fault, tint_pixel, tint_said, tint_says};
 
@@ -11,14 +13,14 @@ use refusal::Refusal;
 use samples::Pixel;
 
 // The channels of a tint in double precision.
-#[derive(Drop)]
+#[derive(Clone, Copy)]
 pub struct Channels {
     pub red: f64,
     pub green: f64,
     pub blue: f64,
 }
 
-#[derive(Drop)]
+#[derive(Clone, Copy)]
 pub enum Tint {
     // Values of 8-bit sRGB.
     Code(u8, u8, u8),
@@ -29,7 +31,7 @@ pub enum Tint {
 }
 
 // What a tint gives.
-#[derive(Drop)]
+#[derive(Clone, Copy)]
 pub enum Tinted {
     // A pixel of 12-bit codes.
     Accepted(Pixel),
@@ -48,7 +50,7 @@ pub fn to_pixel(tint: Tint) -> Tinted
 }
 
 // The first channel that is infinite or not a number.
-#[derive(Drop)]
+#[derive(Clone, Copy)]
 enum ChannelFault {
     At(usize),
     Nowhere,

@@ -1,6 +1,8 @@
 // Runs the examples of rules 10.6 and 10.7, codes next to black and white, both runs of the blue of rule 10.5
 // and a walk over the sample file, and prints what the library gives. `stdout` beside this has what the second
 // implementation gives for them: see rust/reference, whose program of the same name prints it.
+#![tactic(auto)]
+
 use libc::STDOUT_FILENO;
 use linear::CodeFound;
 use picture::Conversion;
@@ -155,7 +157,7 @@ fn frames_row(count: u8) {
 }
 
 // What the first three steps of a walk find, and the number after each, by value.
-#[derive(Drop)]
+#[derive(Clone, Copy)]
 struct Steps {
     first: Found,
     after_first: usize,

@@ -1,0 +1,15 @@
+use Prim.Native.Nat.{◌≤◌, ◌-◌}
+use Prim.Native.Nat.{◌≤◌, ◌-◌}
+use mathlib.Core.Path.{◌≡◌}
+use lib.ListN.{drop}
+use Rattle.samples.specs.declared.Coding.TheVariants.{Codes}
+use Rattle.refusal.specs.Answers.{accepted}
+use Rattle.samples.specs.Samples.{two_by_two}
+use Rattle.samples.specs.Faults.{samples_say}
+use Rattle.samples.proofs.first_fault.Given as goal
+
+abbrev pub invariant-loop-k : goal.invariant-loop-k
+invariant-loop-k l = (l.k ≤ l.end) × (samples_say (Codes l.greatest l.chroma) (accepted l.count) 0 (two_by_two l.src) ≡ samples_say (Codes l.greatest l.chroma) (accepted l.count) l.k (drop l.k (two_by_two l.src)))
+
+abbrev pub decreases-loop-k : goal.decreases-loop-k
+decreases-loop-k l = l.end - l.k

@@ -71,6 +71,7 @@ fn arrival_at(numbers: &[u32], i: usize) -> Arrival
 }
 
 // Does arrival i keep the limits, behind one of turn `before`?
+#[tactic(auto, using(std::proofs::lemmas::Bool::Decides::nat_tests), unfolding(crate::specs::Arrivals::keeps_limits))]
 fn keeps_limits(i: usize, before: u32, arrival: Arrival) -> bool
     ensures { result ≡ keeps_limits i before arrival }
 {

@@ -9,6 +9,7 @@ use Rattle.lumachroma.proofs.Quotient.{divided}
 use Rattle.lumachroma.proofs.luma_of.Goals as goal
 use Rattle.lumachroma.proofs.luma_of.Goals.{After-rest}
 
+-- 500 rounds the weighted sum over 1000.
 rounded : (r g b : ℕ) → (299 * r + 587 * g + 114 * b + 500) / 1000 ≡ luma r g b
 unfolding luma nearest
 rounded r g b = omega arith

@@ -14,6 +14,7 @@ use Rattle.lumachroma.proofs.Quotient.{clipped-at}
 use Rattle.lumachroma.proofs.Back.{red_unclipped, green_unclipped, blue_unclipped, together, is_code}
 use Rattle.lumachroma.proofs.to_rgb.Goals as goal
 
+-- The channels at the middle code that the code has worked out.
 module _ (d : Depth) (p : Pixel) (m : ℕ) (e : m ≡ middle (bits d)) where
   red : clipped_to (2 * m - 1) (1000 * p.first + 1402 * p.third) (1402 * m) 1000 ≡ red_back (bits d) p.first p.second p.third
   unfolding red_back
@@ -29,6 +30,7 @@ module _ (d : Depth) (p : Pixel) (m : ℕ) (e : m ≡ middle (bits d)) where
   unfolding blue_back
   blue = ap (λ (m : ℕ). clipped_to (2 * m - 1) (1000 * p.first + 1772 * p.second) (1772 * m) 1000) e ∙ clipped-at d _ _ _
 
+-- The samples are of 16 bits, and the starts are those of that middle code.
 record Given (p : Pixel) (m : ℕ) (starts : Starts) : Type 0 where
   first : p.first ≤ 65535
   second : p.second ≤ 65535
@@ -38,6 +40,22 @@ record Given (p : Pixel) (m : ℕ) (starts : Starts) : Type 0 where
   green-start : starts.green ≡ (starts_at m).green
   blue-start : starts.blue ≡ (starts_at m).blue
 
+given :
+    (d : Depth) (p : Pixel) {m : ℕ} {s : Starts} → (m ≡ middle (bits d)) × Middle m → p.first ≤ 65535 → p.second ≤ 65535 → p.third ≤ 65535
+    → s ≡ starts_at (middle (bits d)) → Given p m s
+given d p {m} {s} h hr hg hb e =
+    let starts : s ≡ starts_at m = e ∙ ap starts_at (sym h.0) in
+    record {
+      first = hr;
+      second = hg;
+      third = hb;
+      middle-code = h.1;
+      red-start = ap (λ (r : Starts). r.red) starts;
+      green-start = ap (λ (r : Starts). r.green) starts;
+      blue-start = ap (λ (r : Starts). r.blue) starts;
+    }
+
+-- Then the three sums are the quotients of the channels, not yet clipped.
 module _ {p : Pixel} {m : ℕ} {starts : Starts} (g : Given p m starts) (sum : ℕ) where
   red-sum : sum ≡ p.first + (starts.red + red_of_cr * p.third) / 2 ^ 30 → Unclipped m (1000 * p.first + 1402 * p.third) (1402 * m) 1000 sum
   red-sum e = rw (e, g.red-start) (red_unclipped m p.first p.third g.middle-code g.first g.third)
@@ -52,43 +70,21 @@ module _ {p : Pixel} {m : ℕ} {starts : Starts} (g : Given p m starts) (sum : �
 
 pub returns-then-red-green : goal.returns-then-red-green
 returns-then-red-green c =
-    let given : Given c.args.p c.middle_of-middle.result c.starts_of-starts.result =
-    let m = c.middle_of-middle.ensures in
-    let starts : c.starts_of-starts.result ≡ starts_at c.middle_of-middle.result = c.starts_of-starts.ensures ∙ ap starts_at (sym m.0) in
-    record {
-      first = omega arith;
-      second = omega arith;
-      third = omega arith;
-      middle-code = m.1;
-      red-start = ap (λ (r : Starts). r.red) starts;
-      green-start = ap (λ (r : Starts). r.green) starts;
-      blue-start = ap (λ (r : Starts). r.blue) starts;
-    } in
     let a = c.args in
     let m = c.middle_of-middle.ensures in
+    let g = given a.depth a.p m (omega arith) (omega arith) (omega arith) c.starts_of-starts.ensures in
     let low = together _ _ _ _ c.if-red-green.true in
     λ i. pixel
-    ((is_code _ _ _ _ _ m.1 (red-sum given _ c.add_chroma-red.ensures) low.0 ∙ red a.depth a.p _ m.0) i)
-    ((is_code _ _ _ _ _ m.1 (green-sum given _ c.green_of-green.ensures) low.1 ∙ green a.depth a.p _ m.0) i)
-    ((is_code _ _ _ _ _ m.1 (blue-sum given _ c.add_chroma-blue.ensures) low.2 ∙ blue a.depth a.p _ m.0) i)
+    ((is_code _ _ _ _ _ m.1 (red-sum g _ c.add_chroma-red.ensures) low.0 ∙ red a.depth a.p _ m.0) i)
+    ((is_code _ _ _ _ _ m.1 (green-sum g _ c.green_of-green.ensures) low.1 ∙ green a.depth a.p _ m.0) i)
+    ((is_code _ _ _ _ _ m.1 (blue-sum g _ c.add_chroma-blue.ensures) low.2 ∙ blue a.depth a.p _ m.0) i)
 
 pub returns-else-red-green : goal.returns-else-red-green
 returns-else-red-green c =
-    let given : Given c.args.p c.middle_of-middle.result c.starts_of-starts.result =
-    let m = c.middle_of-middle.ensures in
-    let starts : c.starts_of-starts.result ≡ starts_at c.middle_of-middle.result = c.starts_of-starts.ensures ∙ ap starts_at (sym m.0) in
-    record {
-      first = omega arith;
-      second = omega arith;
-      third = omega arith;
-      middle-code = m.1;
-      red-start = ap (λ (r : Starts). r.red) starts;
-      green-start = ap (λ (r : Starts). r.green) starts;
-      blue-start = ap (λ (r : Starts). r.blue) starts;
-    } in
     let a = c.args in
     let m = c.middle_of-middle.ensures in
+    let g = given a.depth a.p m (omega arith) (omega arith) (omega arith) c.starts_of-starts.ensures in
     λ i. pixel
-    ((c.clip.ensures ∙ (red-sum given _ c.add_chroma-red.ensures).clips ∙ red a.depth a.p _ m.0) i)
-    ((c.clip-else-red-green.ensures ∙ (green-sum given _ c.green_of-green.ensures).clips ∙ green a.depth a.p _ m.0) i)
-    ((c.clip-else-red-green-2.ensures ∙ (blue-sum given _ c.add_chroma-blue.ensures).clips ∙ blue a.depth a.p _ m.0) i)
+    ((c.clip.ensures ∙ (red-sum g _ c.add_chroma-red.ensures).clips ∙ red a.depth a.p _ m.0) i)
+    ((c.clip-else-red-green.ensures ∙ (green-sum g _ c.green_of-green.ensures).clips ∙ green a.depth a.p _ m.0) i)
+    ((c.clip-else-red-green-2.ensures ∙ (blue-sum g _ c.add_chroma-blue.ensures).clips ∙ blue a.depth a.p _ m.0) i)

@@ -2,7 +2,7 @@
 -- It is shown once for every depth n, over the depth's step. First the bounds of luma and chroma; the rest follows from them.
 -- Assumes nothing.
 use mathlib.Core.Path.{◌≡◌}
-use Prim.Native.Nat.{ℕ, ◌+◌, ◌-◌, ◌*◌, ◌^◌, ◌≤◌, ◌<◌}
+use Prim.Native.Nat.{ℕ, ◌+◌, ◌*◌, ◌^◌, ◌≤◌, ◌<◌}
 use native.Mathlib.Omega.{arith}
 use Rattle.numbers.specs.Rounding.{nearest, nearest_down, clipped_to}
 use Rattle.esrgb.specs.Depths.{greatest, middle}

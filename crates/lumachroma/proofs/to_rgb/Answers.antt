@@ -1,5 +1,4 @@
 -- `lumachroma::to_rgb` meets its contract: each channel is its definition at the middle code of the depth, clipped or in no need of it.
--- Assumes nothing.
 use Prim.Native.Nat.{ℕ, ◌+◌, ◌-◌, ◌*◌, ◌/◌, ◌^◌, ◌≤◌}
 use mathlib.Core.Path.{◌≡◌, sym, ap, ◌∙◌}
 use native.Mathlib.Omega.{arith}
@@ -13,9 +12,7 @@ use Rattle.lumachroma.specs.HowDivided.{Middle, red_of_cr, blue_of_cb, green_of_
 use Rattle.numbers.specs.Rounding.{clipped_to}
 use Rattle.lumachroma.proofs.Quotient.{clipped-at}
 use Rattle.lumachroma.proofs.Back.{red_unclipped, green_unclipped, blue_unclipped, together, is_code}
-use borrow.Author.Rules.{rules}
-use Rattle.lumachroma.proofs.to_rgb.Statement.{statement}
-use Rattle.lumachroma.proofs.to_rgb.Tie as tie
+use Rattle.lumachroma.proofs.to_rgb.Goals as goal
 
 -- The channels at the middle code that the code has worked out.
 module _ (d : Depth) (p : Pixel) (m : ℕ) (e : m ≡ middle (bits d)) where
@@ -43,16 +40,16 @@ record Given (p : Pixel) (m : ℕ) (starts : Starts) : Type 0 where
   green-start : starts.green ≡ (starts_at m).green
   blue-start : starts.blue ≡ (starts_at m).blue
 
-given : (c : tie.After-starts-of) → Given c.before.before.args.p c.before.middle_of.result c.starts-of.result
-given c =
-    let s = c.before.before in
-    let m = c.before.middle_of.ensures in
-    let starts : c.starts-of.result ≡ starts_at c.before.middle_of.result = c.starts-of.ensures ∙ ap starts_at (sym m.0) in
+given :
+    (d : Depth) (p : Pixel) {m : ℕ} {s : Starts} → (m ≡ middle (bits d)) × Middle m → p.first ≤ 65535 → p.second ≤ 65535 → p.third ≤ 65535
+    → s ≡ starts_at (middle (bits d)) → Given p m s
+given d p {m} {s} h hr hg hb e =
+    let starts : s ≡ starts_at m = e ∙ ap starts_at (sym h.0) in
     record {
-      first = omega arith;
-      second = omega arith;
-      third = omega arith;
-      middle-code = m.1;
+      first = hr;
+      second = hg;
+      third = hb;
+      middle-code = h.1;
       red-start = ap (λ (r : Starts). r.red) starts;
       green-start = ap (λ (r : Starts). r.green) starts;
       blue-start = ap (λ (r : Starts). r.blue) starts;
@@ -71,83 +68,23 @@ module _ {p : Pixel} {m : ℕ} {starts : Starts} (g : Given p m starts) (sum : �
   blue-sum : sum ≡ p.first + (starts.blue + blue_of_cb * p.second) / 2 ^ 30 → Unclipped m (1000 * p.first + 1772 * p.second) (1772 * m) 1000 sum
   blue-sum e = rw (e, g.blue-start) (blue_unclipped m p.first p.second g.middle-code g.first g.second)
 
-middle-of-requires : tie.Need-middle-of-requires
-middle-of-requires c κs = search rules
-
-starts-of-requires : tie.Need-starts-of-requires
-starts-of-requires c κs = search rules
-
-add-chroma-requires : tie.Need-add-chroma-requires
-add-chroma-requires c κs = (omega (arith, (given c).red-start), omega arith)
-
-green-of-requires : tie.Need-green-of-requires
-green-of-requires c κs =
-    let g = given c.before in
-    (omega (arith, g.green-start, g.middle-code.most), omega (arith, g.green-start))
-
-add-chroma-requires-2 : tie.Need-add-chroma-requires-2
-add-chroma-requires-2 c κs = (omega (arith, (given c.before.before).blue-start), omega arith)
-
-mul-if1 : tie.Need-overflow-mul-if1
-mul-if1 c = search rules
-
-cast-t15 : tie.Need-overflow-cast-t15
-cast-t15 c = search rules
-
-cast-t17 : tie.Need-overflow-cast-t17
-cast-t17 c = search rules
-
-cast-t19 : tie.Need-overflow-cast-t19
-cast-t19 c = search rules
-
-clip-requires : tie.Need-clip-requires
-clip-requires c κs = search rules
-
-clip-requires-2 : tie.Need-clip-requires-2
-clip-requires-2 c κs = search rules
-
-clip-requires-3 : tie.Need-clip-requires-3
-clip-requires-3 c κs = search rules
-
-returns : tie.Need-returns
-returns c =
-    let r = c.before.before.before in
-    let a = r.before.before.before.args in
-    let m = r.before.before.middle_of.ensures in
-    let g = given r.before in
-    let low = together _ _ _ _ c.if1.true in
+pub returns-then-red-green : goal.returns-then-red-green
+returns-then-red-green c =
+    let a = c.args in
+    let m = c.middle_of-middle.ensures in
+    let g = given a.depth a.p m (omega arith) (omega arith) (omega arith) c.starts_of-starts.ensures in
+    let low = together _ _ _ _ c.if-red-green.true in
     λ i. pixel
-    ((is_code _ _ _ _ _ m.1 (red-sum g _ r.add-chroma.ensures) low.0 ∙ red a.depth a.p _ m.0) i)
-    ((is_code _ _ _ _ _ m.1 (green-sum g _ c.before.before.green-of.ensures) low.1 ∙ green a.depth a.p _ m.0) i)
-    ((is_code _ _ _ _ _ m.1 (blue-sum g _ c.before.add-chroma2.ensures) low.2 ∙ blue a.depth a.p _ m.0) i)
+    ((is_code _ _ _ _ _ m.1 (red-sum g _ c.add_chroma-red.ensures) low.0 ∙ red a.depth a.p _ m.0) i)
+    ((is_code _ _ _ _ _ m.1 (green-sum g _ c.green_of-green.ensures) low.1 ∙ green a.depth a.p _ m.0) i)
+    ((is_code _ _ _ _ _ m.1 (blue-sum g _ c.add_chroma-blue.ensures) low.2 ∙ blue a.depth a.p _ m.0) i)
 
-returns-2 : tie.Need-returns-2
-returns-2 c =
-    let b = c.before.before.before.before in
-    let r = b.before.before in
-    let a = r.before.before.before.args in
-    let m = r.before.before.middle_of.ensures in
-    let g = given r.before in
+pub returns-else-red-green : goal.returns-else-red-green
+returns-else-red-green c =
+    let a = c.args in
+    let m = c.middle_of-middle.ensures in
+    let g = given a.depth a.p m (omega arith) (omega arith) (omega arith) c.starts_of-starts.ensures in
     λ i. pixel
-    ((c.before.before.clip.ensures ∙ (red-sum g _ r.add-chroma.ensures).clips ∙ red a.depth a.p _ m.0) i)
-    ((c.before.clip2.ensures ∙ (green-sum g _ b.before.green-of.ensures).clips ∙ green a.depth a.p _ m.0) i)
-    ((c.clip3.ensures ∙ (blue-sum g _ b.add-chroma2.ensures).clips ∙ blue a.depth a.p _ m.0) i)
-
-pub to-rgb-spec : {M : Type 1} → statement M
-to-rgb-spec =
-    tie.close
-    (tie.spec
-    middle-of-requires
-    starts-of-requires
-    add-chroma-requires
-    green-of-requires
-    add-chroma-requires-2
-    mul-if1
-    cast-t15
-    cast-t17
-    cast-t19
-    clip-requires
-    clip-requires-2
-    clip-requires-3
-    returns
-    returns-2)
+    ((c.clip.ensures ∙ (red-sum g _ c.add_chroma-red.ensures).clips ∙ red a.depth a.p _ m.0) i)
+    ((c.clip-else-red-green.ensures ∙ (green-sum g _ c.green_of-green.ensures).clips ∙ green a.depth a.p _ m.0) i)
+    ((c.clip-else-red-green-2.ensures ∙ (blue-sum g _ c.add_chroma-blue.ensures).clips ∙ blue a.depth a.p _ m.0) i)

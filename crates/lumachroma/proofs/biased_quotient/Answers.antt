@@ -1,0 +1,37 @@
+-- `lumachroma::biased_quotient` meets its contract: rounded luma tells which half rounds, and the estimate leaves the rest of the
+-- quotient.
+use mathlib.Core.Path.{◌≡◌}
+use Prim.Native.Nat.{ℕ, ◌+◌, ◌-◌, ◌*◌, ◌≤◌, ◌<◌}
+use native.Mathlib.Omega.{arith}
+use Rattle.numbers.specs.Rounding.{nearest}
+use Rattle.lumachroma.specs.LumaChroma.{luma}
+use Rattle.lumachroma.specs.HowDivided.{weighted, biased_dividend}
+use Rattle.lumachroma.proofs.Quotient.{divided, above-luma, not_above_luma}
+use Rattle.lumachroma.proofs.biased_quotient.Goals as goal
+use Rattle.lumachroma.proofs.biased_quotient.Goals.{then-luma_of-channel, else-luma_of-channel}
+
+-- What rounded luma tells of the weighted sum: it is within a half of it over 1000.
+module _ (r g b channel : ℕ) where
+  above : luma r g b < channel → 299 * r + 587 * g + 114 * b ≤ 1000 * channel
+  unfolding luma nearest
+  above h = omega arith
+
+  not_above : channel ≤ luma r g b → 1000 * channel ≤ 299 * r + 587 * g + 114 * b + 500
+  unfolding luma nearest
+  not_above h = omega arith
+
+pub returns : goal.returns
+returns c =
+    let p = c.args.p in
+    let den : ℕ = c.args.den in
+    let e : ℕ = c.args.estimate in
+    let whole : ℕ = biased_dividend (1000 * c.args.channel) (weighted p) den in
+    let y : c.luma_of.result ≡ luma p.first p.second p.third = c.luma_of.ensures in
+    elim c.if-luma_of-channel.branch [
+      | then-luma_of-channel w ↦
+          rw (divided (whole - 1) den e _ c.rest.ensures (omega arith) (omega arith) (omega arith) (omega arith) (omega arith))
+          (above-luma c.requires.0 (above p.first p.second p.third c.args.channel (omega arith)))
+      | else-luma_of-channel w ↦
+          rw (divided whole den e _ c.rest.ensures (omega arith) (omega arith) (omega arith) (omega arith) (omega arith))
+          (not_above_luma c.requires.0 (not_above p.first p.second p.third c.args.channel (omega arith)))
+    ]

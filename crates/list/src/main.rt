@@ -5,8 +5,8 @@
 
 ghost use Rattle.std.specs.Prelude.{◌≤◌, length};
 
-use libc::{STDERR_FILENO, STDIN_FILENO, STDOUT_FILENO};
 use listing::{INPUT_LIMIT, LISTING_ROOM, write_whole_listing};
+use std::io::{Read, Write};
 
 // What reading gives: how many bytes there are, and whether that is all of the input that fits.
 #[derive(Clone, Copy)]
@@ -15,25 +15,22 @@ struct Input {
     is_whole: bool,
 }
 
-// Reads standard input to its end, or until the buffer is full.
-fn read_input(file: &mut [u8]) -> Input
+// Reads to the end of the input, or until the buffer is full.
+fn read_input<R: Read>(source: &mut R, file: &mut [u8]) -> Input
     ensures { result.length ≤ length file.new }
 {
     let mut length: usize = 0;
     while length < file.len() {
-        let rest = &mut file[length..];
-        let got = libc::read(STDIN_FILENO, rest);
-        if got < 0 {
-            return Input {
-                length,
-                is_whole: false,
-            };
+        match source.read(&mut file[length..]) {
+            Ok(0) => break,
+            Ok(more) => length += more,
+            Err(_) => {
+                return Input {
+                    length,
+                    is_whole: false,
+                };
+            }
         }
-        let more = io::count(got, rest);
-        if more == 0 {
-            break;
-        }
-        length += more;
     }
     Input {
         length,
@@ -41,17 +38,25 @@ fn read_input(file: &mut [u8]) -> Input
     }
 }
 
-fn main() {
+// Says on standard error why nothing is listed. Where that cannot be written either, there is nobody to tell.
+fn complain(rt: &impl Eprint, what: &str) {
+    match eprintln!(rt; "list: {what}") {
+        Ok(()) => (),
+        Err(_) => (),
+    }
+}
+
+fn main(rt: HostRuntime) {
     let mut file = [0u8; INPUT_LIMIT + 1];
-    let input = read_input(&mut file);
+    let input = read_input(&mut rt.stdin(), &mut file);
     if !input.is_whole {
-        io::write_all(STDERR_FILENO, b"list: standard input cannot be read\n");
+        complain(&rt, "standard input cannot be read");
         return;
     }
-    let length = input.length;
     let mut text = [0u8; LISTING_ROOM];
-    let end = write_whole_listing(&file[..length], &mut text);
-    if !io::write_all(STDOUT_FILENO, &text[..end]) {
-        io::write_all(STDERR_FILENO, b"list: standard output cannot be written\n");
+    let end = write_whole_listing(&file[..input.length], &mut text);
+    match rt.stdout().write_all(&text[..end]) {
+        Ok(()) => (),
+        Err(_) => complain(&rt, "standard output cannot be written"),
     }
 }

@@ -3,49 +3,48 @@
 // implementation gives for them: see rust/reference, whose program of the same name prints it.
 #![tactic(auto)]
 
-use libc::STDOUT_FILENO;
 use linear::CodeFound;
 use picture::Conversion;
 use spool::{Found, Opened};
+use std::io;
 
 // One field of a line.
-fn show(n: u64) {
-    io::write_all(STDOUT_FILENO, b" ");
-    io::print_decimal(STDOUT_FILENO, n);
+fn show(rt: &impl Print, n: u64) -> io::Result<()> {
+    print!(rt; " {n}")
 }
 
-fn show_byte(byte: u8) {
-    show(byte as u64);
+fn show_byte(rt: &impl Print, byte: u8) -> io::Result<()> {
+    show(rt, byte as u64)
 }
 
-fn end_line() {
-    io::write_all(STDOUT_FILENO, b"\n");
+fn end_line(rt: &impl Print) -> io::Result<()> {
+    println!(rt; "")
 }
 
 // A code brought from one depth to another.
-fn depth_row(from: u32, to: u32, low: u8, high: u8) {
+fn depth_row(rt: &impl Print, from: u32, to: u32, low: u8, high: u8) -> io::Result<()> {
     let src = [low, high, low, high, low, high];
     let mut dst = [0u8; 6];
     picture::convert(Conversion::ChangeDepth { from, to }, &src, &mut dst);
-    io::write_all(STDOUT_FILENO, b"depth");
-    show(from as u64);
-    show(to as u64);
-    show(numbers::from_two(low, high) as u64);
-    show(numbers::from_two(dst[0], dst[1]) as u64);
-    end_line();
+    print!(rt; "depth")?;
+    show(rt, from as u64)?;
+    show(rt, to as u64)?;
+    show(rt, numbers::from_two(low, high) as u64)?;
+    show(rt, numbers::from_two(dst[0], dst[1]) as u64)?;
+    end_line(rt)
 }
 
 // A code brought to sRGB, and 1 if sRGB cannot hold it.
-fn srgb_row(depth: u32, low: u8, high: u8) {
+fn srgb_row(rt: &impl Print, depth: u32, low: u8, high: u8) -> io::Result<()> {
     let src = [low, high, low, high, low, high];
     let mut dst = [0u8; 3];
     let given = picture::convert(Conversion::ToSrgb { depth }, &src, &mut dst);
-    io::write_all(STDOUT_FILENO, b"srgb");
-    show(depth as u64);
-    show(numbers::from_two(low, high) as u64);
-    show_byte(dst[0]);
-    show(given.clipped as u64);
-    end_line();
+    print!(rt; "srgb")?;
+    show(rt, depth as u64)?;
+    show(rt, numbers::from_two(low, high) as u64)?;
+    show_byte(rt, dst[0])?;
+    show(rt, given.clipped as u64)?;
+    end_line(rt)
 }
 
 // The code of a light, 0 where its depth has none.
@@ -57,30 +56,30 @@ fn code_of(depth: u32, light: i32) -> u64 {
 }
 
 // A neutral patch: its light, and its codes at 10 and 12 bits.
-fn patch_row(light: i32, printed: u64) {
-    io::write_all(STDOUT_FILENO, b"patch");
-    show(printed);
-    show(code_of(10, light));
-    show(code_of(12, light));
-    end_line();
+fn patch_row(rt: &impl Print, light: i32, printed: u64) -> io::Result<()> {
+    print!(rt; "patch")?;
+    show(rt, printed)?;
+    show(rt, code_of(10, light))?;
+    show(rt, code_of(12, light))?;
+    end_line(rt)
 }
 
 // A pixel of two bytes a sample.
-fn show_pixel(pixel: &[u8; 6]) {
-    show(numbers::from_two(pixel[0], pixel[1]) as u64);
-    show(numbers::from_two(pixel[2], pixel[3]) as u64);
-    show(numbers::from_two(pixel[4], pixel[5]) as u64);
+fn show_pixel(rt: &impl Print, pixel: &[u8; 6]) -> io::Result<()> {
+    show(rt, numbers::from_two(pixel[0], pixel[1]) as u64)?;
+    show(rt, numbers::from_two(pixel[2], pixel[3]) as u64)?;
+    show(rt, numbers::from_two(pixel[4], pixel[5]) as u64)
 }
 
 // A pixel of sRGB.
-fn show_srgb(pixel: &[u8; 3]) {
-    show_byte(pixel[0]);
-    show_byte(pixel[1]);
-    show_byte(pixel[2]);
+fn show_srgb(rt: &impl Print, pixel: &[u8; 3]) -> io::Result<()> {
+    show_byte(rt, pixel[0])?;
+    show_byte(rt, pixel[1])?;
+    show_byte(rt, pixel[2])
 }
 
 // Both runs of the blue of sRGB: its codes, their luma and chroma, the codes that come back, and both at 8 bits.
-fn runs_row(depth: u32) {
+fn runs_row(rt: &impl Print, depth: u32) -> io::Result<()> {
     let blue = [0u8, 0, 255];
     let mut codes = [0u8; 6];
     let mut ycc = [0u8; 6];
@@ -96,14 +95,14 @@ fn runs_row(depth: u32) {
         &mut direct,
         &mut round,
     );
-    io::write_all(STDOUT_FILENO, b"runs");
-    show(depth as u64);
-    show_pixel(&codes);
-    show_pixel(&ycc);
-    show_pixel(&back);
-    show_srgb(&direct);
-    show_srgb(&round);
-    end_line();
+    print!(rt; "runs")?;
+    show(rt, depth as u64)?;
+    show_pixel(rt, &codes)?;
+    show_pixel(rt, &ycc)?;
+    show_pixel(rt, &back)?;
+    show_srgb(rt, &direct)?;
+    show_srgb(rt, &round)?;
+    end_line(rt)
 }
 
 // The refusal of the one frame of a spool, 0 where it is found.
@@ -116,7 +115,7 @@ fn frame_refusal(file: &[u8]) -> u64 {
 }
 
 // A spool with one frame of sRGB, one row of a width that is given by its bytes.
-fn width_row(low: u8, high: u8) {
+fn width_row(rt: &impl Print, low: u8, high: u8) -> io::Result<()> {
     let mut file = [0u8; 24604];
     file[0] = 1;
     file[4] = 12;
@@ -128,10 +127,10 @@ fn width_row(low: u8, high: u8) {
     file[18] = 1;
     file[20] = 1;
     file[21] = 8;
-    io::write_all(STDOUT_FILENO, b"width");
-    show(numbers::from_two(low, high) as u64);
-    show(frame_refusal(&file));
-    end_line();
+    print!(rt; "width")?;
+    show(rt, numbers::from_two(low, high) as u64)?;
+    show(rt, frame_refusal(&file))?;
+    end_line(rt)
 }
 
 // The refusal of a spool, 0 where it opens.
@@ -144,16 +143,16 @@ fn open_refusal(file: &[u8]) -> u64 {
 }
 
 // A spool of so many frames, with room for the records of 97.
-fn frames_row(count: u8) {
+fn frames_row(rt: &impl Print, count: u8) -> io::Result<()> {
     let mut file = [0u8; 1564];
     file[0] = count;
     file[4] = 12;
     file[8] = 28;
     file[9] = 6;
-    io::write_all(STDOUT_FILENO, b"frames");
-    show(count as u64);
-    show(open_refusal(&file));
-    end_line();
+    print!(rt; "frames")?;
+    show(rt, count as u64)?;
+    show(rt, open_refusal(&file))?;
+    end_line(rt)
 }
 
 // What the first three steps of a walk find, and the number after each, by value.
@@ -182,19 +181,19 @@ fn first_steps(file: &[u8]) -> Steps {
 }
 
 // A step: the offset of what is found, or the refusal's number, and the number after it.
-fn step_row(found: Found, next: usize) {
+fn step_row(rt: &impl Print, found: Found, next: usize) -> io::Result<()> {
     match found {
         Found::Frame(strided) => {
-            io::write_all(STDOUT_FILENO, b"step");
-            show(strided.frame.offset as u64);
+            print!(rt; "step")?;
+            show(rt, strided.frame.offset as u64)?;
         }
         Found::Refused(why) => {
-            io::write_all(STDOUT_FILENO, b"step refused");
-            show(refusal::number(why) as u64);
+            print!(rt; "step refused")?;
+            show(rt, refusal::number(why) as u64)?;
         }
     }
-    show(next as u64);
-    end_line();
+    show(rt, next as u64)?;
+    end_line(rt)
 }
 
 // The header and the records of samples/two-frames.spool, whose pixels are not looked at.
@@ -224,50 +223,50 @@ fn two_frames() -> [u8; 56] {
 }
 
 // The steps of a walk over that file, past its end.
-fn step_rows() {
+fn step_rows(rt: &impl Print) -> io::Result<()> {
     let file = two_frames();
     let steps = first_steps(&file);
     let first = steps.first;
     let second = steps.second;
     let third = steps.third;
-    step_row(first, steps.after_first);
-    step_row(second, steps.after_second);
-    step_row(third, steps.after_third);
+    step_row(rt, first, steps.after_first)?;
+    step_row(rt, second, steps.after_second)?;
+    step_row(rt, third, steps.after_third)
 }
 
-fn main() {
-    depth_row(10, 12, 255, 3);
-    depth_row(12, 10, 2, 6);
-    depth_row(12, 10, 3, 6);
-    depth_row(12, 10, 255, 15);
-    depth_row(16, 10, 255, 255);
-    depth_row(16, 12, 255, 255);
-    srgb_row(10, 127, 1);
-    srgb_row(10, 128, 1);
-    srgb_row(10, 126, 3);
-    srgb_row(10, 127, 3);
-    srgb_row(12, 255, 5);
-    srgb_row(12, 0, 6);
-    srgb_row(12, 248, 13);
-    srgb_row(12, 249, 13);
-    srgb_row(16, 255, 95);
-    srgb_row(16, 0, 96);
-    srgb_row(16, 128, 223);
-    srgb_row(16, 129, 223);
-    runs_row(10);
-    runs_row(12);
-    width_row(0, 32);
-    width_row(1, 32);
-    frames_row(96);
-    frames_row(97);
-    step_rows();
-    patch_row(0, 0);
-    patch_row(10100, 10100);
-    patch_row(30300, 30300);
-    patch_row(70710, 70710);
-    patch_row(141410, 141410);
-    patch_row(292930, 292930);
-    patch_row(595960, 595960);
-    patch_row(797980, 797980);
-    patch_row(1000000, 1000000);
+fn main(rt: HostRuntime) -> io::Result<()> {
+    depth_row(&rt, 10, 12, 255, 3)?;
+    depth_row(&rt, 12, 10, 2, 6)?;
+    depth_row(&rt, 12, 10, 3, 6)?;
+    depth_row(&rt, 12, 10, 255, 15)?;
+    depth_row(&rt, 16, 10, 255, 255)?;
+    depth_row(&rt, 16, 12, 255, 255)?;
+    srgb_row(&rt, 10, 127, 1)?;
+    srgb_row(&rt, 10, 128, 1)?;
+    srgb_row(&rt, 10, 126, 3)?;
+    srgb_row(&rt, 10, 127, 3)?;
+    srgb_row(&rt, 12, 255, 5)?;
+    srgb_row(&rt, 12, 0, 6)?;
+    srgb_row(&rt, 12, 248, 13)?;
+    srgb_row(&rt, 12, 249, 13)?;
+    srgb_row(&rt, 16, 255, 95)?;
+    srgb_row(&rt, 16, 0, 96)?;
+    srgb_row(&rt, 16, 128, 223)?;
+    srgb_row(&rt, 16, 129, 223)?;
+    runs_row(&rt, 10)?;
+    runs_row(&rt, 12)?;
+    width_row(&rt, 0, 32)?;
+    width_row(&rt, 1, 32)?;
+    frames_row(&rt, 96)?;
+    frames_row(&rt, 97)?;
+    step_rows(&rt)?;
+    patch_row(&rt, 0, 0)?;
+    patch_row(&rt, 10100, 10100)?;
+    patch_row(&rt, 30300, 30300)?;
+    patch_row(&rt, 70710, 70710)?;
+    patch_row(&rt, 141410, 141410)?;
+    patch_row(&rt, 292930, 292930)?;
+    patch_row(&rt, 595960, 595960)?;
+    patch_row(&rt, 797980, 797980)?;
+    patch_row(&rt, 1000000, 1000000)
 }

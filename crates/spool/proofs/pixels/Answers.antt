@@ -1,0 +1,13 @@
+-- `spool::pixels` meets its contract.
+use Prim.Native.Nat.{◌+◌, ◌≤◌}
+use mathlib.Core.Bool.{true}
+use lib.ListN.{length}
+use Rattle.spool.proofs.FindFaults.{found_whole}
+use borrow.Author.Rules.{rules}
+use Rattle.spool.proofs.pixels.Goals as goal
+
+pub slice_bounds-result-end : goal.slice_bounds-result-end
+slice_bounds-result-end c =
+    let end : c.in-Frame.strided.frame.offset + c.span_bytes.result ≤ length c.args.file.now =
+    rw c.span_bytes.ensures (found_whole true c.args.file.now c.args.number c.in-Frame.is c.find.ensures).is-sound.inside in
+    search rules

@@ -1,0 +1,17 @@
+-- `linear::moved::add_moves` meets its contract. The invariant: the light moved, and the light left with its moves, give all of it.
+use Prim.Native.Nat.{◌-◌, ◌≤◌}
+use mathlib.Core.Path.{◌≡◌, refl, ◌∙◌}
+use native.Mathlib.Omega.{arith}
+use lib.IntN.{pos}
+use lib.ListN.{length, get_or, length-set}
+use mir.Syntax.{w32}
+use mir.ValLaws.{to_z-of_z}
+use Rattle.linear.specs.Moved.{moved}
+use Rattle.linear.proofs.Moving.{MovedTo, moved_more, moved_all}
+use Rattle.linear.proofs.moved.add_moves.Given as goal
+
+abbrev pub invariant-loop-k : goal.invariant-loop-k
+invariant-loop-k l = (l.k ≤ length l.light) × (length l.light ≡ length l.initial.light) × MovedTo l.moves l.initial.light l.light l.k
+
+abbrev pub decreases-loop-k : goal.decreases-loop-k
+decreases-loop-k l = length l.light - l.k

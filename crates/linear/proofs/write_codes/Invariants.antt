@@ -1,0 +1,21 @@
+-- `linear::write_codes` meets its contract. The invariant: the bytes written, and those of the lights left, give all bytes.
+use Prim.Native.Nat.{ℕ, suc, ◌+◌, ◌*◌, ◌-◌, ◌≤◌}
+use mathlib.Core.List.{List, ◌++◌}
+use mathlib.Core.Path.{◌≡◌, refl, sym, ap, ◌∙◌}
+use native.Mathlib.Omega.{arith}
+use lib.ListN.{length, get_or, drop, length-set}
+use lib.IntN.{pos}
+use mir.ValLaws.{to_z-of_z}
+use Rattle.numbers.specs.Bytes.{low_bytes}
+use Rattle.esrgb.specs.Depths.{bits}
+use Rattle.transfer.specs.Level.{code_of_light}
+use Rattle.linear.specs.Operations.{light_to_codes}
+use Rattle.numbers.proofs.Writing.{Written, written_more, written_all, take_two}
+use Rattle.linear.proofs.write_codes.Given as goal
+
+abbrev pub invariant-loop-k : goal.invariant-loop-k
+invariant-loop-k l =
+    (l.k ≤ length l.src) × (length l.dst ≡ length l.initial.dst) × Written (light_to_codes (bits l.depth)) l.src l.dst (2 * l.k) l.k
+
+abbrev pub decreases-loop-k : goal.decreases-loop-k
+decreases-loop-k l = length l.src - l.k

@@ -4,7 +4,6 @@ use Rattle.samples.specs.Faults.{source_says}
 use Rattle.esrgb.specs.Depths.{Names}
 use Rattle.linear.specs.Operations.{codes_to_light}
 use Rattle.refusal.proofs.Answering.{refuses}
-use borrow.Author.Rules.{rules}
 use Rattle.linear.proofs.code_to_light.Goals as goal
 
 pub returns-in-NotOffered : goal.returns-in-NotOffered
@@ -12,7 +11,5 @@ unfolding source_says
 returns-in-NotOffered c =
     let a = c.args in
     let none = subst (Names a.depth) c.in-NotOffered.is c.depth_of.ensures in
-    refuses _ _ (codes_to_light a.depth a.src.now) a.dst-1.now (rw none refl)
-
-pub returns-in-NotOffered-clause-numbers : goal.returns-in-NotOffered-clause-numbers
-returns-in-NotOffered-clause-numbers c = ?
+    let p = refuses 9 _ (codes_to_light a.depth a.src.now) a.dst.now (rw none refl) in
+    record { answer = p.0; numbers = p.1 }

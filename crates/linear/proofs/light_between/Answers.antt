@@ -8,7 +8,6 @@ use Rattle.esrgb.specs.Depths.{scale}
 use Rattle.transfer.specs.Light.{light_of_level, per_level, light_between}
 use Rattle.transfer.specs.HowTabled.{levels, LightTable}
 use Rattle.transfer.proofs.Between.{light_end, lights_rise, between_is, share_fits}
-use borrow.Author.Rules.{rules}
 use Rattle.linear.proofs.light_between.Goals as goal
 
 module _ (lights : List ℕ) (table : LightTable lights) (v : ℕ) (h : v < levels 16) where

@@ -3,10 +3,10 @@ use mathlib.Core.Path.{refl, ◌∙◌}
 use native.Mathlib.Omega.{arith}
 use native.Mathlib.Nat.{lt_trans}
 use lib.Dec.{lit<}
+use mir.Syntax.{w32}
 use mir.ValLaws.{to_z-of_z}
 use Rattle.transfer.specs.Light.{light_of_code}
 use Rattle.transfer.proofs.Between.{between-fits}
-use borrow.Author.Rules.{rules}
 use Rattle.linear.proofs.light_of.Goals as goal
 
 pub with_sign-requires : goal.with_sign-requires
@@ -15,6 +15,6 @@ with_sign-requires c = rw c.light_between.ensures (lt_trans (between-fits _ (ome
 pub returns : goal.returns
 unfolding light_of_code
 returns c =
-    to_z-of_z _ _ (record { sfits = c.with_sign.type-inv })
+    to_z-of_z w32 _ (record { sfits = c.with_sign.type_inv })
     ∙ c.with_sign.ensures
     ∙ rw (c.light_between.ensures, c.level_size.ensures) refl

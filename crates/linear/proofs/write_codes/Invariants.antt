@@ -1,16 +1,10 @@
 -- `linear::write_codes` meets its contract. The invariant: the bytes written, and those of the lights left, give all bytes.
-use Prim.Native.Nat.{ℕ, suc, ◌+◌, ◌*◌, ◌-◌, ◌≤◌}
-use mathlib.Core.List.{List, ◌++◌}
-use mathlib.Core.Path.{◌≡◌, refl, sym, ap, ◌∙◌}
-use native.Mathlib.Omega.{arith}
-use lib.ListN.{length, get_or, drop, length-set}
-use lib.IntN.{pos}
-use mir.ValLaws.{to_z-of_z}
-use Rattle.numbers.specs.Bytes.{low_bytes}
+use Prim.Native.Nat.{◌*◌, ◌-◌, ◌≤◌}
+use mathlib.Core.Path.{◌≡◌}
+use lib.ListN.{length}
 use Rattle.esrgb.specs.Depths.{bits}
-use Rattle.transfer.specs.Level.{code_of_light}
 use Rattle.linear.specs.Operations.{light_to_codes}
-use Rattle.numbers.proofs.Writing.{Written, written_more, written_all, take_two}
+use Rattle.numbers.proofs.Writing.{Written}
 use Rattle.linear.proofs.write_codes.Given as goal
 
 abbrev pub invariant-loop-k : goal.invariant-loop-k

@@ -9,7 +9,6 @@ use Rattle.esrgb.specs.Depths.{bits, greatest, step}
 use Rattle.esrgb.proofs.Scale.{scale}
 use Rattle.transfer.specs.Light.{light_of_code}
 use Rattle.transfer.proofs.Scaling.{up, up_fits, up_lights}
-use borrow.Author.Rules.{rules}
 use Rattle.linear.proofs.write_lights.Goals as goal
 
 module _ (depth d : Depth) (same : depth ≡ d) where

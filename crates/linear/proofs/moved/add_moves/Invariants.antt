@@ -1,13 +1,8 @@
 -- `linear::moved::add_moves` meets its contract. The invariant: the light moved, and the light left with its moves, give all of it.
 use Prim.Native.Nat.{◌-◌, ◌≤◌}
-use mathlib.Core.Path.{◌≡◌, refl, ◌∙◌}
-use native.Mathlib.Omega.{arith}
-use lib.IntN.{pos}
-use lib.ListN.{length, get_or, length-set}
-use mir.Syntax.{w32}
-use mir.ValLaws.{to_z-of_z}
-use Rattle.linear.specs.Moved.{moved}
-use Rattle.linear.proofs.Moving.{MovedTo, moved_more, moved_all}
+use mathlib.Core.Path.{◌≡◌}
+use lib.ListN.{length}
+use Rattle.linear.proofs.Moving.{MovedTo}
 use Rattle.linear.proofs.moved.add_moves.Given as goal
 
 abbrev pub invariant-loop-k : goal.invariant-loop-k

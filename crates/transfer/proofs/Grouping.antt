@@ -11,7 +11,7 @@ use lib.Dec.{leb, ltb}
 use lib.ListN.{length, get_or}
 use Rattle.esrgb.specs.Depths.{step, scale}
 use Rattle.transfer.specs.Level.{level_of_light}
-use Rattle.transfer.specs.HowTabled.{levels, last_group, group_of, few_levels, start_of, StartTable}
+use Rattle.transfer.specs.HowTabled.{levels, last_group, group_of, few_levels, StartTable}
 use Rattle.transfer.proofs.Every.{every, passes_at}
 use Rattle.transfer.proofs.Level.{is_from, is_below, level_from, level_below, level_rises, meets}
 

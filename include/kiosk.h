@@ -2,7 +2,7 @@
  * kiosk.h: colour pictures, tints, stickers, spool files and a printer's turns for photo kiosks, from the proved
  * library.
  *
- * Link with libkiosk.a, which `rt staticlib kiosk` writes to target/staticlib/. x86-64 Linux only.
+ * Link with libkiosk.a, which `tools/archive` writes to target/staticlib/. x86-64 Linux only.
  * Rules are cited by their numbers in docs/RULES.md.
  *
  * Answers. A function that returns int64_t gives a count of 0 or more, or minus the number of a

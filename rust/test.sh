@@ -15,7 +15,7 @@ if cargo fmt --version >"$log" 2>&1; then
     quietly cargo fmt --check
 fi
 # The archive takes a proof of its own: what does not need it is built and run meanwhile.
-[ -e ../target/staticlib/libkiosk.a ] || rt staticlib kiosk >"$made" 2>&1 &
+[ -e ../target/staticlib/libkiosk.a ] || ../tools/archive >"$made" 2>&1 &
 archive=$!
 quietly cargo test --offline --package reference
 quietly diff <(cargo run --quiet --offline --package reference --bin vectors) ../crates/vectors/stdout
@@ -35,6 +35,12 @@ script() {
     [ "$status" -eq 1 ]
 }
 quietly script
-quietly rt check list
+# The program list, as the tests of the listing run it.
+listing_program() {
+    (cd ../crates/list && rt run <stdin) || return 1
+    mkdir -p ../target/bin
+    cp ../crates/list/out/list ../target/bin/list
+}
+quietly listing_program
 quietly cargo test --offline --package outside --test c_interface --test listing
 cargo test --offline --quiet --package outside --test against_reference

@@ -1,5 +1,5 @@
-//! Links libkiosk.a. Where it is missing or older than the Rattle sources, `rt staticlib kiosk` proves the library and
-//! makes it, as the script `kiosk` at the root does, which also shows how far it is.
+//! Links libkiosk.a. Where it is missing or older than the Rattle sources, `tools/archive` proves the library and makes
+//! it, as the script `kiosk` at the root does, which also shows how far it is.
 
 use std::path::{Path, PathBuf};
 use std::process::Command;
@@ -29,16 +29,14 @@ fn link() -> Result<(), String> {
     let newest = sources.iter().filter_map(|s| newest_in(s)).max();
     if changed(&archive).is_none_or(|made| newest.is_some_and(|newest| made < newest)) {
         // Cargo shows this when the proof is done.
-        println!("cargo:warning=the library was proved first, by `rt staticlib kiosk`");
+        println!("cargo:warning=the library was proved first, by `tools/archive`");
         let start = SystemTime::now();
-        let made = Command::new("rt")
-            .args(["staticlib", "kiosk"])
-            .current_dir(root)
+        let made = Command::new(root.join("tools/archive"))
             .output()
-            .map_err(|e| format!("`rt staticlib kiosk` cannot be run: {e}"))?;
+            .map_err(|e| format!("`tools/archive` cannot be run: {e}"))?;
         if !made.status.success() {
             return Err(format!(
-                "`rt staticlib kiosk` failed:\n{}{}",
+                "`tools/archive` failed:\n{}{}",
                 String::from_utf8_lossy(&made.stdout),
                 String::from_utf8_lossy(&made.stderr)
             ));
@@ -73,6 +71,8 @@ fn newest_in(path: &Path) -> Option<SystemTime> {
     fs::read_dir(path)
         .ok()?
         .flatten()
+        // What a check keeps is no source.
+        .filter(|entry| entry.file_name() != "out")
         .filter_map(|entry| newest_in(&entry.path()))
         .max()
 }

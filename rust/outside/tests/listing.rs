@@ -1,4 +1,4 @@
-//! The listing, by the program `list`, which `rt check list` makes, and by the library's function: on sample files
+//! The listing, by the program `list`, which rust/test.sh makes, and by the library's function: on sample files
 //! against stored output, and on these, on damaged spools and at the limits against the second implementation.
 
 #![forbid(unsafe_code)]

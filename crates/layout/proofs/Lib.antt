@@ -5,6 +5,5 @@ pub mod Writing
 pub mod Read
 pub mod Begun
 pub mod Laid
-pub mod Relent
 pub mod Passes
 pub mod RoundTrip

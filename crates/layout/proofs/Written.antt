@@ -8,6 +8,7 @@ use mathlib.Core.Bool.{true, false}
 use mathlib.Core.List.{List, [], ◌++◌, append-nil}
 use lib.ListN.{length, take, drop, length-take, length-drop}
 use lib.Seq.{take_all, drop-drop, drop-length}
+use borrow.Rule.Slice.PartMut.{put_mid}
 use borrow.Author.Tests.{lt-ltb, le-ltb, le-leb, lt-leb}
 use Rattle.refusal.specs.declared.Refusal.{Refusal}
 use Rattle.refusal.specs.declared.Answer.TheVariants.{Done, Refused, RefusedAt}
@@ -62,6 +63,10 @@ module _ (l : Layout) (s : StridedRecord) {size : ℕ} {full : List ℕ} (e : si
   pub record_there : size ≤ length full
   record_there = rw (e, is, record_length Strided s) (record_sizes l).1
 
+  -- As many of them as a record of the layout has are the record.
+  pub record_taken : take size full ≡ record_bytes l s
+  record_taken = ap₂ take e is ∙ record_prefix l s
+
   pub record_copied : (d : List ℕ) {d' : List ℕ} → d' ≡ take (length (take size full)) (take size full) ++ drop (length (take size full)) d → d' ≡ record_bytes l s ++ drop size d
   record_copied d f =
       copied d (ap₂ take e is ∙ record_prefix l s) f ∙ ap (λ (n : ℕ). record_bytes l s ++ drop n d) (record_length l s ∙ sym e)
@@ -94,6 +99,14 @@ module _ (l : Layout) (place end : ℕ) (r : FrameRecord) (d : List ℕ) where
       → take at d ++ (part ++ drop (length d - at) (drop at d)) ≡ record_written l true place end r d
   put_record {at} {size} {part} e f h low room is =
       put-there d (record_bytes l (packed (with_offset end r))) part at size (le_trans (le-add_right at size) room) is
+      ∙ ap₂ (λ (a n : ℕ). take a d ++ (record_bytes l (packed (with_offset end r)) ++ drop (a + n) d)) e f
+      ∙ sym (in_place h low (rw (e, f) at room))
+
+  -- The same, where exactly the place was written.
+  pub puts_record : {at size : ℕ} {part : List ℕ} → at ≡ record_place l place → size ≡ record_size l → place < frame_limit → end ≤ length_limit → at + size ≤ length d
+      → part ≡ record_bytes l (packed (with_offset end r)) → put_mid at (at + size - at) d part ≡ record_written l true place end r d
+  puts_record {at} {size} {part} e f h low room is =
+      ap₂ (λ (x y : List ℕ). take at d ++ (x ++ y)) is (drop-drop (at + size - at) at d ∙ ap (λ (n : ℕ). drop n d) (omega arith))
       ∙ ap₂ (λ (a n : ℕ). take a d ++ (record_bytes l (packed (with_offset end r)) ++ drop (a + n) d)) e f
       ∙ sym (in_place h low (rw (e, f) at room))
 

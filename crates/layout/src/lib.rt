@@ -10,7 +10,6 @@ ghost use Rattle.refusal.specs.Answers.{accepted, said, leaves};
 ghost use Rattle.layout.specs.LayOut.{layout_says, layout_bytes};
 ghost use Rattle.layout.specs.HowLaidOut.{state_of, grown, record_written, visited, walked, begun, readied};
 
-use bytes::copy;
 use records::{
     FRAME_LIMIT, FrameRecord, Header, Layout, check_record, header_bytes, header_size, packed,
     pixel_bytes, record_size, strided_bytes, too_many_frames, with_offset,
@@ -59,7 +58,7 @@ fn write_record(
         return;
     }
     let bytes = strided_bytes(packed(with_offset(end as u32, frame)));
-    copy(&bytes[..size], &mut dst[at..]);
+    dst[at..at + size].copy_from_slice(&bytes[..size]);
 }
 
 // How far a pass over the records has come: whether it writes, its answer so far, which is the offset
@@ -126,7 +125,7 @@ fn begin(layout: Layout, count: usize, shop: u16, pixels: usize, dst: &mut [u8])
         size: size as u16,
     };
     let bytes = header_bytes(layout, header);
-    copy(&bytes[..least], dst);
+    dst[..least].copy_from_slice(&bytes[..least]);
     Progress {
         writing: true,
         answer: Answer::Done(first),

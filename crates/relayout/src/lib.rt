@@ -15,7 +15,6 @@ ghost use Rattle.relayout.specs.Relayout.{records_of, frames_say, relayout_says,
 ghost use Rattle.relayout.specs.HowCarried.{over, Written};
 ghost use Rattle.relayout.specs.Carried.{Carried};
 
-use bytes::copy;
 use layout::{Progress, ready, visit};
 use records::{layout_of, other_layout, pixel_bytes};
 use refusal::Answer;
@@ -74,7 +73,7 @@ fn copy_pixels(file: &[u8], count: usize, first: usize, dst: &mut [u8])
     let mut k: usize = 0;
     while k < count {
         let part = pixels(file, k);
-        copy(part, &mut dst[end..]);
+        dst[end..end + part.len()].copy_from_slice(part);
         end = end + part.len();
         k = k + 1;
     }

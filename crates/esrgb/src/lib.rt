@@ -111,6 +111,7 @@ pub fn apply(rule: SampleRule, sample: u16) -> u16
     }
 }
 
+#[tactic(auto, unfolding(crate::specs::HowApplied::applied))]
 fn to_eight(cut: Cut, sample: u16) -> u16
     ensures { result ≡ applied (SampleRule.ToEight cut) sample }
 {

@@ -105,6 +105,7 @@ pub enum Coding {
 }
 
 // Sample x, the k-th of a buffer of codes.
+#[tactic(auto, using(std::proofs::lemmas::Bool::Decides::nat_tests), unfolding(crate::specs::Faults::fault))]
 fn look_at(chroma: bool, greatest: u16, k: usize, x: u16) -> Checked
     ensures { verdict result ≡ fault (Coding.Codes greatest chroma) k x }
 {

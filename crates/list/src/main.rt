@@ -1,6 +1,6 @@
 // Lists the spool on standard input: `listing` makes the text, and this program reads and writes.
 // It reads one byte more than is listed, so that a file that is too long is seen to be. Where it cannot
-// read or write, it says so on standard error; the language has no exit status.
+// read or write, it says so on standard error; its status is 0 all the same.
 #![tactic(auto)]
 
 ghost use Rattle.std.specs.Prelude.{◌≤◌, length};

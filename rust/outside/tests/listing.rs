@@ -197,8 +197,8 @@ fn limits() {
     }
 }
 
-/// Input that cannot be read prints no listing, and neither goes unsaid on standard error. A program in
-/// Rattle has no exit status to tell it by.
+/// Input that cannot be read prints no listing, and neither goes unsaid on standard error. The program's
+/// status does not tell it.
 #[test]
 fn what_cannot_be_read_or_written_is_said() {
     let folder = File::open(env!("CARGO_TARGET_TMPDIR")).expect("a folder");

@@ -110,37 +110,21 @@ pub fn kiosk_to_srgb(
 }
 
 // E-sRGB of one depth to another.
-pub fn kiosk_change_depth(
-    from: u32,
-    to: u32,
-    src: &[u8],
-    dst: &mut [u8],
-    place: &mut usize,
-) -> i64
+pub fn kiosk_change_depth(from: u32, to: u32, src: &[u8], dst: &mut [u8], place: &mut usize) -> i64
     ensures { Converts (Conversion.ChangeDepth from to) src.now result dst.old dst.new place.old place.new }
 {
     converted(Conversion::ChangeDepth { from, to }, src, dst, place)
 }
 
 // E-sRGB to luma and chroma.
-pub fn kiosk_to_luma_chroma(
-    depth: u32,
-    src: &[u8],
-    dst: &mut [u8],
-    place: &mut usize,
-) -> i64
+pub fn kiosk_to_luma_chroma(depth: u32, src: &[u8], dst: &mut [u8], place: &mut usize) -> i64
     ensures { Converts (Conversion.ToLumaChroma depth) src.now result dst.old dst.new place.old place.new }
 {
     converted(Conversion::ToLumaChroma { depth }, src, dst, place)
 }
 
 // Luma and chroma back to e-sRGB.
-pub fn kiosk_from_luma_chroma(
-    depth: u32,
-    src: &[u8],
-    dst: &mut [u8],
-    place: &mut usize,
-) -> i64
+pub fn kiosk_from_luma_chroma(depth: u32, src: &[u8], dst: &mut [u8], place: &mut usize) -> i64
     ensures { Converts (Conversion.FromLumaChroma depth) src.now result dst.old dst.new place.old place.new }
 {
     converted(Conversion::FromLumaChroma { depth }, src, dst, place)
@@ -177,12 +161,7 @@ pub fn kiosk_from_sycc(depth: u32, src: &[u8], dst: &mut [u8], place: &mut usize
 // ---- linear light
 
 // E-sRGB codes to linear light.
-pub fn kiosk_code_to_light(
-    depth: u32,
-    src: &[u8],
-    dst: &mut [i32],
-    place: &mut usize,
-) -> i64
+pub fn kiosk_code_to_light(depth: u32, src: &[u8], dst: &mut [i32], place: &mut usize) -> i64
     ensures { Gives (codes_to_light_says depth src.now (length dst.old)) (codes_to_light depth src.now) result dst.old dst.new place.old place.new }
 {
     let answer = code_to_light(depth, src, dst);
@@ -446,11 +425,7 @@ pub fn kiosk_find(file: &[u8], number: usize, frame: &mut [u8; RECORD_SIZE]) -> 
 }
 
 // The same, with the frame's stride in the record.
-pub fn kiosk_find_strided(
-    file: &[u8],
-    number: usize,
-    frame: &mut [u8; STRIDED_RECORD_SIZE],
-) -> i64
+pub fn kiosk_find_strided(file: &[u8], number: usize, frame: &mut [u8; STRIDED_RECORD_SIZE]) -> i64
     ensures value { result ≡ find_answer (find_says file.now number) }
     ensures frame { frame.new ≡ find_record Strided (find_says file.now number) }
 {
@@ -516,12 +491,7 @@ pub fn kiosk_relayout(file: &[u8], dst: &mut [u8], place: &mut usize) -> i64
 }
 
 // Lays out a spool of records. Their offsets are not looked at.
-pub fn kiosk_lay_out(
-    records: &[FrameRecord],
-    shop: u16,
-    dst: &mut [u8],
-    place: &mut usize,
-) -> i64
+pub fn kiosk_lay_out(records: &[FrameRecord], shop: u16, dst: &mut [u8], place: &mut usize) -> i64
     ensures { Gives (layout_says records.now (length dst.old)) (layout_bytes records.now shop dst.old) result dst.old dst.new place.old place.new }
 {
     let answer = lay_out(records, shop, dst);

@@ -22,9 +22,11 @@ ghost use Rattle.listing.specs.Text.{put_text};
 ghost use Rattle.listing.specs.Listing.{listing};
 ghost use Rattle.kiosk.specs.Interface.{minus, answer_of, place_of, Gives, Converts, ConvertsAt, clips_after, Countable, Tints, samples_of_one, four_of, sums_of, open_answer, open_shop, open_table, find_answer, record_of, find_record, row_answer, row_start};
 
-use records::{FrameRecord, RECORD_SIZE, STRIDED_RECORD_SIZE};
 use listing::LISTING_ROOM;
+use picture::Conversion;
+use records::{FrameRecord, RECORD_SIZE, STRIDED_RECORD_SIZE};
 use stickers::TINT_CODES;
+use tint::{Channels, Tint};
 
 #[unsafe(no_mangle)]
 pub extern "C" fn kiosk_from_srgb(depth: u32, src: &[u8], dst: &mut [u8], place: &mut usize) -> i64
@@ -241,7 +243,9 @@ pub extern "C" fn kiosk_both_runs(
     ensures direct_clips { get_or clipped.new 0 0 ≡ clips_after depth codes.new (length direct.old) (get_or clipped.old 0 0) }
     ensures round_clips { get_or clipped.new 1 0 ≡ clips_after depth back.new (length round.old) (get_or clipped.old 1 0) }
 {
-    kiosk::kiosk_both_runs(depth, picture, codes, ycc, back, direct, round, answers, places, clipped);
+    kiosk::kiosk_both_runs(
+        depth, picture, codes, ycc, back, direct, round, answers, places, clipped,
+    );
 }
 
 #[unsafe(no_mangle)]

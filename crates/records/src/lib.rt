@@ -158,6 +158,7 @@ fn four_at(bytes: &[u8], at: usize) -> u32
 }
 
 // The layout of a file.
+#[tactic(auto, using(crate::proofs::Layouts::too_short))]
 pub fn layout_of(file: &[u8]) -> Layout
     ensures { result ≡ layout_of file.now }
 {

@@ -27,7 +27,7 @@ returns-in-Record c =
     let sized = c.record_size.ensures in
     let read = subst (ReadsRecord c.layout_of-layout.result at.file.now (contents.table + c.record_size.result * at.number)) c.in-Record.is c.read_record.ensures in
     c.frame_of.ensures
-    ∙ by_record at.gaps_taken at.file.now at.number spool.0 (omega (arith, spool.1, c.if-contents-number.false)) (record_there at.file.now at.number told spool.3 (rw sized at read.1))
+    ∙ by_record at.gaps_taken at.file.now at.number spool.0 (omega (arith, spool.1)) (record_there at.file.now at.number told spool.3 (rw sized at read.1))
 
 pub returns-in-Short : goal.returns-in-Short
 returns-in-Short c =
@@ -38,6 +38,6 @@ returns-in-Short c =
     let sized = c.record_size.ensures in
     let short : length at.file.now < contents.table + c.record_size.result * at.number + record_size c.layout_of-layout.result =
     subst (ReadsRecord c.layout_of-layout.result at.file.now (contents.table + c.record_size.result * at.number)) c.in-Short.is c.read_record.ensures in
-    let room = record_inside at.file.now at.number spool.0 (omega (arith, spool.1, c.if-contents-number.false)) in
+    let room = record_inside at.file.now at.number spool.0 (omega (arith, spool.1)) in
     let less : length at.file.now < (header_of at.file.now).table + record_size (layout_of at.file.now) * at.number + record_size (layout_of at.file.now) = rw (sized, told, spool.3) at short in
     absurd (omega (arith, less, room))

@@ -15,7 +15,7 @@ use Rattle.stickers.specs.Distances.{away, tint_luma, winner, least_of, summed}
 use Rattle.stickers.specs.Choices.{upward, for_each, choices, best_from, best, chosen, choice_of}
 use Rattle.printer.specs.Arrivals.{arrivals, keeps_limits, arrivals_say, simulation_says}
 use Rattle.printer.specs.Turns.{came, next_from, after_print, after_turn, new_printer, printer_at, turn_byte, turn_bytes}
-use Rattle.examples.specs.Examples.{Example, AllHold, done, ◌&◌, srgb_examples, light_examples, luma_chroma_examples, depth_examples, tint_examples, ycc_examples, sticker_examples, printer_examples, examples}
+use Rattle.examples.specs.Examples.{Example, AllHold, done, ◌&◌, srgb_examples, light_examples, moved_examples, luma_chroma_examples, depth_examples, tint_examples, ycc_examples, sticker_examples, printer_examples, examples}
 
 srgb_hold : AllHold srgb_examples
 unfolding nearest from_srgb to_srgb
@@ -28,7 +28,11 @@ light_hold =
     light_examples_lem.0 & light_examples_lem.1 & light_examples_lem.2 & light_examples_lem.3 & light_examples_lem.4
     & sixteen_examples.0 & sixteen_examples.1 & sixteen_examples.2 & sixteen_examples.3 & sixteen_examples.4 & sixteen_examples.5
     & code-examples.0 & code-examples.1
-    & moved-examples.0 & moved-examples.1 & moved-examples.2 & moved-examples.3 & moved-examples.4 & moved-examples.5
+    & done
+
+pub moved_hold : AllHold moved_examples
+moved_hold =
+    moved-examples.0 & moved-examples.1 & moved-examples.2 & moved-examples.3 & moved-examples.4 & moved-examples.5
     & done
 
 luma_chroma_hold : AllHold luma_chroma_examples

@@ -131,7 +131,12 @@ light_examples =
     ∷ light_of 16 (negsuc 24575) (negsuc 527114)
     ∷ code_of 12 (pos 3130) 1618
     ∷ code_of 12 (pos 3131) 1619
-    ∷ code_of 12 (pos 18) 1536
+    ∷ []
+
+-- Rule 10.2, of black's light moved by as much as it keeps its code, and by one millionth more. They stand in a list of their own.
+abbrev pub moved_examples : List Example
+moved_examples =
+    code_of 12 (pos 18) 1536
     ∷ code_of 12 (pos 19) 1537
     ∷ code_of 12 (negsuc 17) 1536
     ∷ code_of 12 (negsuc 18) 1535
@@ -264,6 +269,6 @@ printer_examples =
     ∷ simulation (0 ∷ 0 ∷ 1 ∷ 5 ∷ 0 ∷ []) 3 (refused_at 22 1)
     ∷ []
 
--- All of them.
+-- All of them, but for moved light.
 abbrev pub examples : List Example
 examples = srgb_examples ++ light_examples ++ luma_chroma_examples ++ depth_examples ++ tint_examples ++ ycc_examples ++ sticker_examples ++ printer_examples

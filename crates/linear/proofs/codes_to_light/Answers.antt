@@ -14,14 +14,11 @@ use Rattle.linear.proofs.codes_to_light.Goals as goal
 
 pub write_lights-requires : goal.write_lights-requires
 write_lights-requires c =
-    let accepts : let a = c.args in
-    source_says true (Codes c.greatest_of.result false) false a.src.now (length a.dst.now) ≡ accepted c.in-Done.field-0 =
-    sym c.examine-answer.ensures ∙ ap said c.in-Done.is in
-    let sound : (k : ℕ) →
-    get_or (two_by_two c.args.src.now) k 0 ≤ c.greatest_of.result =
-    λ k. let a = c.args in
-    accepted-within _ (length a.src.now / 6) _ 0 (two_by_two a.src.now) (source_samples true _ false a.src.now (length a.dst.now) _ accepts) k in
     let a = c.args in
+    let accepts : source_says true (Codes c.greatest_of.result false) false a.src.now (length a.dst.now) ≡ accepted c.in-Done.field-0 =
+    sym c.examine-answer.ensures ∙ ap said c.in-Done.is in
+    let sound : (k : ℕ) → get_or (two_by_two a.src.now) k 0 ≤ c.greatest_of.result =
+    accepted-within _ (length a.src.now / 6) _ 0 (two_by_two a.src.now) (source_samples true _ false a.src.now (length a.dst.now) _ accepts) in
     let exact = source_exact true _ false a.src.now (length a.dst.now) _ accepts in (
       c.light_table-lights.ensures,
       omega (arith, exact),

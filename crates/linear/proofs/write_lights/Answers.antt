@@ -1,20 +1,17 @@
 -- `linear::write_lights` meets its contract: a code of each depth, times its factor, is a 16-bit code of the same light.
-use Prim.Native.Nat.{ℕ, ◌*◌, ◌/◌, ◌^◌, ◌≤◌, ◌<◌}
-use mathlib.Core.Path.{◌≡◌, sym, ap, subst, ◌∙◌}
+use Prim.Native.Nat.{ℕ, ◌*◌, ◌/◌}
+use mathlib.Core.Path.{◌≡◌, sym, ap, ◌∙◌}
 use mathlib.Core.List.{List, map}
 use Rattle.samples.specs.Samples.{two_by_two}
 use Rattle.esrgb.specs.declared.Depth.{Depth}
 use Rattle.esrgb.specs.declared.Depth.TheVariants.{Ten, Twelve, Sixteen}
-use Rattle.esrgb.specs.Depths.{bits, greatest, step}
+use Rattle.esrgb.specs.Depths.{bits, step}
 use Rattle.esrgb.proofs.Scale.{scale}
 use Rattle.transfer.specs.Light.{light_of_code}
-use Rattle.transfer.proofs.Scaling.{up, up_fits, up_lights}
+use Rattle.transfer.proofs.Scaling.{up, up_lights}
 use Rattle.linear.proofs.write_lights.Goals as goal
 
 module _ (depth d : Depth) (same : depth ≡ d) where
-  fits : (x : ℕ) → x ≤ greatest (bits depth) → step 16 / step (bits d) * x < 2 ^ 16
-  fits x h = up_fits (bits d) _ (scale d) (up d) x (subst (λ (e : Depth). x ≤ greatest (bits e)) same h)
-
   lights : (xs : List ℕ) → map (λ (x : ℕ). light_of_code 16 (step 16 / step (bits d) * x)) xs ≡ map (light_of_code (bits depth)) xs
   lights xs = up_lights (bits d) _ (scale d) (up d) xs ∙ ap (λ (e : Depth). map (light_of_code (bits e)) xs) (sym same)
 

@@ -1,5 +1,5 @@
 -- `printer::arrive` meets its contract: each arrival of the turn comes, and the first of a later turn ends it.
-use mathlib.Core.Path.{sym, ap, ◌∙◌}
+use mathlib.Core.Path.{◌≡◌, sym, ap, ◌∙◌}
 use native.Mathlib.Omega.{arith}
 use Rattle.printer.proofs.Judging.{length-arrivals}
 use Rattle.printer.proofs.Arriving.{coming_more, stops_here, none_left, all_came, next_ready}
@@ -15,9 +15,10 @@ returns-then-arrival-turn c =
 pub loop-next-preserved : goal.loop-next-preserved
 loop-next-preserved c =
     let is = c.arrival_at-arrival.ensures in
+    let now : c.arrival_at-arrival.result.turn ≡ c.args.turn = omega arith in
     rw is
     (coming_more _ _ _ _ c.loop-next.next c.loop-next.invariant (omega (arith, length-arrivals c.args.numbers.now))
-    (sym (ap (λ x. x.turn) is) ∙ c.if-arrival-turn.false))
+    (sym (ap (λ x. x.turn) is) ∙ now))
 
 pub returns : goal.returns
 returns c =

@@ -1,9 +1,10 @@
-use Prim.Native.Nat.{◌+◌, ◌*◌}
-use Prim.Native.Nat.{◌+◌, ◌*◌}
+-- `samples::first_fault` meets its contract: the samples before the one at fault are sound.
+use Prim.Native.Nat.{ℕ, ◌+◌, ◌*◌, ◌<◌}
 use mathlib.Core.Path.{◌≡◌, sym, ap, ◌∙◌}
-use mathlib.Core.List.{[]}
+use mathlib.Core.Bool.{Bool}
+use mathlib.Core.List.{List, []}
 use native.Mathlib.Omega.{arith}
-use lib.ListN.{drop, drop_of_length-le}
+use lib.ListN.{length, get_or, drop, drop_of_length-le}
 use Rattle.refusal.specs.declared.Checked.{Checked}
 use Rattle.samples.specs.declared.Coding.TheVariants.{Codes}
 use Rattle.samples.proofs.Reading.{length_two}
@@ -13,39 +14,37 @@ use Rattle.samples.specs.Samples.{two_by_two}
 use Rattle.samples.specs.Faults.{fault, samples_say}
 use Rattle.samples.proofs.first_fault.Goals as goal
 
+-- What was found of the k-th sample decides, or those behind it do.
+judged_here :
+    (chroma : Bool) (greatest count : ℕ) (xs : List ℕ) (k x : ℕ) (judged answer : Checked) → k < length xs → x ≡ get_or xs k 0
+    → verdict judged ≡ fault (Codes greatest chroma) k x → judged ≡ answer
+    → samples_say (Codes greatest chroma) (accepted count) k (drop k xs)
+    ≡ decides (verdict answer) (2 * k) (samples_say (Codes greatest chroma) (accepted count) (k + 1) (drop (k + 1) xs))
+judged_here chroma greatest count xs k x judged answer below is said e =
+    say_at (Codes greatest chroma) (accepted count) xs k below
+    ∙ ap (λ v. decides v (2 * k) (samples_say (Codes greatest chroma) (accepted count) (k + 1) (drop (k + 1) xs)))
+    (ap (fault (Codes greatest chroma) k) (sym is) ∙ sym said ∙ ap verdict e)
+
 pub loop-k-init : goal.loop-k-init
 loop-k-init c =
     (omega (arith, c.requires.inside, length_two c.args.src.now), c.requires.skips (accepted c.args.count))
 
 pub returns-in-Faulty : goal.returns-in-Faulty
 returns-in-Faulty c =
-    let judged_here : (found : Checked) → c.look_at-found.result ≡ found
-    → let a = c.args in
-    let xs = two_by_two a.src.now in
-    samples_say (Codes a.greatest a.chroma) (accepted a.count) c.loop-k.k (drop c.loop-k.k xs)
-    ≡ decides (verdict found) (2 * c.loop-k.k) (samples_say (Codes a.greatest a.chroma) (accepted a.count) (c.loop-k.k + 1) (drop (c.loop-k.k + 1) xs)) =
-    λ found e. let a = c.args in
-    let xs = two_by_two a.src.now in
-    let k = c.loop-k.k in
-    say_at (Codes a.greatest a.chroma) (accepted a.count) xs k (omega (arith, length_two a.src.now))
-    ∙ ap (λ v. decides v (2 * k) (samples_say (Codes a.greatest a.chroma) (accepted a.count) (k + 1) (drop (k + 1) xs)))
-    (ap (fault (Codes a.greatest a.chroma) k) (sym c.wide_sample.ensures) ∙ sym c.look_at-found.ensures ∙ ap verdict e) in
-    sym (c.loop-k.invariant.1 ∙ judged_here _ c.in-Faulty.is)
+    let a = c.args in
+    let below : c.loop-k.k < length (two_by_two a.src.now) = omega (arith, length_two a.src.now) in
+    sym
+    (c.loop-k.invariant.1
+    ∙ judged_here a.chroma a.greatest a.count (two_by_two a.src.now) c.loop-k.k _ _ _ below c.wide_sample.ensures c.look_at-found.ensures c.in-Faulty.is)
 
 pub loop-k-preserved : goal.loop-k-preserved
 loop-k-preserved c =
-    let judged_here : (found : Checked) → c.look_at-found.result ≡ found
-    → let a = c.args in
-    let xs = two_by_two a.src.now in
-    samples_say (Codes a.greatest a.chroma) (accepted a.count) c.loop-k.k (drop c.loop-k.k xs)
-    ≡ decides (verdict found) (2 * c.loop-k.k) (samples_say (Codes a.greatest a.chroma) (accepted a.count) (c.loop-k.k + 1) (drop (c.loop-k.k + 1) xs)) =
-    λ found e. let a = c.args in
-    let xs = two_by_two a.src.now in
-    let k = c.loop-k.k in
-    say_at (Codes a.greatest a.chroma) (accepted a.count) xs k (omega (arith, length_two a.src.now))
-    ∙ ap (λ v. decides v (2 * k) (samples_say (Codes a.greatest a.chroma) (accepted a.count) (k + 1) (drop (k + 1) xs)))
-    (ap (fault (Codes a.greatest a.chroma) k) (sym c.wide_sample.ensures) ∙ sym c.look_at-found.ensures ∙ ap verdict e) in
-    (omega arith, c.loop-k.invariant.1 ∙ judged_here _ c.in-Sound.is)
+    let a = c.args in
+    let below : c.loop-k.k < length (two_by_two a.src.now) = omega (arith, length_two a.src.now) in (
+      omega arith,
+      c.loop-k.invariant.1
+          ∙ judged_here a.chroma a.greatest a.count (two_by_two a.src.now) c.loop-k.k _ _ _ below c.wide_sample.ensures c.look_at-found.ensures c.in-Sound.is,
+    )
 
 pub returns : goal.returns
 unfolding samples_say

@@ -1,4 +1,4 @@
-use mathlib.Core.Path.{sym, ◌∙◌}
+-- `samples::wide_sample` meets its contract: the two bytes are the sample's.
 use mathlib.Core.Path.{sym, ◌∙◌}
 use Rattle.samples.proofs.Reading.{two_at}
 use Rattle.samples.proofs.wide_sample.Goals as goal

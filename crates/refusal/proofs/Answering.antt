@@ -2,8 +2,7 @@
 -- Assumes nothing.
 use Prim.Native.Nat.{ℕ}
 use mathlib.Core.Path.{◌≡◌, refl, sym, ap, ◌∙◌}
-use Rattle.refusal.specs.declared.Answer.{Answer}
-use Rattle.refusal.specs.Answers.{Said, said, refused, leaves}
+use Rattle.refusal.specs.Answers.{Said, Answer, said, refused, leaves}
 
 -- What an operation promises: it answers what its definition says, and leaves what that leaves.
 abbrev pub Answered : {A : Type 0} → Said → Said → A → A → A → Type 0

@@ -1,10 +1,8 @@
 -- What an answer says, in the numbers of the rules, and what it leaves in the destination (rules 4.4 and 4.5).
 -- Assumes nothing.
-use Rattle.std.specs.Prelude.{ℕ}
-use Rattle.refusal.specs.declared.Checked.{Checked}
-use Rattle.refusal.specs.declared.Checked.TheVariants.{Sound, Faulty}
-use Rattle.refusal.specs.declared.Answer.{Answer}
-use Rattle.refusal.specs.declared.Answer.TheVariants.{Done, Refused, RefusedAt}
+use Rattle.std.specs.Prelude.{ℕ, Option, None, Some, Result, Ok, Err}
+use Rattle.refusal.specs.declared.Refusal.{Refusal}
+use Rattle.refusal.specs.declared.Fault.{Fault}
 use Rattle.refusal.specs.Refusals.{number_of}
 
 -- What a check finds: nothing wrong, or a refusal by its number; and the first fault of two checks.
@@ -12,9 +10,9 @@ pub data Verdict : Type 0 where
   sound : Verdict
   faulty : ℕ → Verdict
 
-abbrev pub verdict : Checked → Verdict
-verdict Sound = sound
-verdict (Faulty r) = faulty (number_of r)
+abbrev pub verdict : {A : Type 0} → Result A Refusal → Verdict
+verdict (Ok x) = sound
+verdict (Err r) = faulty (number_of r)
 
 abbrev pub or_else : Verdict → Verdict → Verdict
 or_else sound next = next
@@ -26,10 +24,27 @@ pub data Said : Type 0 where
   refused : ℕ → Said
   refused_at : ℕ → ℕ → Said
 
+-- What a fault says: one that has no place, and one at a place.
+abbrev pub nowhere : Refusal → Fault
+nowhere r = record { refusal = r; place = None }
+
+abbrev pub at_place : ℕ → Option ℕ → Said
+at_place number None = refused number
+at_place number (Some at) = refused_at number at
+
+abbrev pub fault_said : Fault → Said
+fault_said f = at_place (number_of f.refusal) f.place
+
+-- What an answer says that gives a number, and one that gives something of which a number is told.
+abbrev pub said_by : {A : Type 0} → (A → ℕ) → Result A Fault → Said
+said_by told (Ok x) = accepted (told x)
+said_by told (Err f) = fault_said f
+
+abbrev pub Answer : Type 0
+Answer = Result ℕ Fault
+
 abbrev pub said : Answer → Said
-said (Done n) = accepted n
-said (Refused r) = refused (number_of r)
-said (RefusedAt r at) = refused_at (number_of r) at
+said answer = said_by (λ n. n) answer
 
 -- What is said of something at a place: its fault and the place, or what the rest says.
 abbrev pub decides : Verdict → ℕ → Said → Said

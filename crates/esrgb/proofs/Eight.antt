@@ -8,8 +8,7 @@ use Rattle.numbers.specs.Rounding.{nearest}
 use Rattle.esrgb.specs.Depths.{step}
 use Rattle.esrgb.specs.Codes.{from_srgb, to_srgb, srgb_value}
 use Rattle.esrgb.specs.declared.Cut.{Cut}
-use Rattle.esrgb.specs.declared.SampleRule.TheVariants.{ToEight}
-use Rattle.esrgb.specs.HowApplied.{applied, cut_of}
+use Rattle.esrgb.specs.HowApplied.{to_eight, cut_of}
 use Rattle.esrgb.proofs.Scale.{Scale}
 use Rattle.esrgb.proofs.Rules.{to_srgb_computes}
 
@@ -41,9 +40,9 @@ pub from_srgb_product : (n a : ℕ) → Scale n → step n * (a + 192) ≡ from_
 unfolding from_srgb
 from_srgb_product n a s = omega (arith, mul-add (step n) a 192)
 
-cut_byte : (cut : Cut) (x : ℕ) → applied (ToEight cut) x < 256
-unfolding applied
+cut_byte : (cut : Cut) (x : ℕ) → to_eight cut x < 256
+unfolding to_eight
 cut_byte cut x = omega arith
 
-pub cut_value : (n x : ℕ) → Scale n → applied (ToEight (cut_of n)) x ≡ srgb_value n x
+pub cut_value : (n x : ℕ) → Scale n → to_eight (cut_of n) x ≡ srgb_value n x
 cut_value n x s = omega (arith, to_srgb_computes n s x, cut_byte (cut_of n) x, to_srgb_byte n x)

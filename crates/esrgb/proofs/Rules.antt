@@ -9,11 +9,10 @@ use lib.Pow.{pow-lt, pow_mono, pow-add, le_ones, high_ones}
 use borrow.Author.Tests.{le-leb, lt-leb}
 use Rattle.numbers.specs.Rounding.{nearest}
 use Rattle.numbers.proofs.Shares.{nearest-even}
-use Rattle.esrgb.specs.declared.SampleRule.TheVariants.{Affine, ToEight, Round}
 use Rattle.esrgb.specs.declared.DepthChange.TheVariants.{Up, Down}
 use Rattle.esrgb.specs.Depths.{greatest, step}
 use Rattle.esrgb.specs.Codes.{from_srgb, to_srgb, srgb_value, change_depth}
-use Rattle.esrgb.specs.HowApplied.{applied, rule_of, Computes, line_of, cut_of, rounding_of, change_of}
+use Rattle.esrgb.specs.HowApplied.{affine, to_eight, round, changed, Computes, line_of, cut_of, rounding_of, change_of}
 use Rattle.esrgb.proofs.Scale.{Scale}
 
 -- (a + h) ÷ 2h, where a is what x is above 384h, needs no look at which is greater: below 383h both sides are 0
@@ -45,12 +44,12 @@ lifted h t g x p e =
           ap (λ (y : ℕ). y / (2 * h)) sum ∙ mul-add-div_right (omega arith) t (x + h) ∙ ap (λ (y : ℕ). t + y) kept
     ]
 
-pub from_srgb_computes : (n : ℕ) → Computes (Affine (line_of n)) (from_srgb n)
-unfolding applied from_srgb
+pub from_srgb_computes : (n : ℕ) → Computes (affine (line_of n)) (from_srgb n)
+unfolding affine from_srgb
 from_srgb_computes n x = mod-mod _ _
 
-pub to_srgb_computes : (n : ℕ) → Scale n → Computes (ToEight (cut_of n)) (srgb_value n)
-unfolding applied to_srgb
+pub to_srgb_computes : (n : ℕ) → Scale n → Computes (to_eight (cut_of n)) (srgb_value n)
+unfolding to_eight to_srgb
 to_srgb_computes n s x =
     let e : step n / 2 ≡ s.half_step = omega (arith, s.even) in
     let h : 1 ≤ s.half_step = omega (arith, s.even, s.some) in
@@ -58,8 +57,8 @@ to_srgb_computes n s x =
     rw (shift, e, s.zero_at, s.even) (ap (λ (y : ℕ). min 255 y % 65536) (low_part s.half_step x h))
 
 -- depth up, and equal depths
-up_computes : (n m : ℕ) → n ≤ m → Computes (Affine (record { factor = 2 ^ (m - n); offset = 0 })) (change_depth n m)
-unfolding applied change_depth
+up_computes : (n m : ℕ) → n ≤ m → Computes (affine (record { factor = 2 ^ (m - n); offset = 0 })) (change_depth n m)
+unfolding affine change_depth
 up_computes n m h x = mod-mod _ _ ∙ rw (le-leb n m h, add-zero, mul_comm (2 ^ (m - n)) x) refl
 
 -- Depth down: half of what is divided by, and how many times the whole fits between the codes and the end of 16 bits.
@@ -89,14 +88,14 @@ module _ (n m : ℕ) (h : m < n) (most : n ≤ 16) where
       let codes : 2 ^ n ≡ greatest m * (2 * half_of n m) + 2 * half_of n m = codes_are ∙ ap (λ (y : ℕ). y * (2 * half_of n m)) (sym whole) ∙ omega (arith, add-mul (greatest m) 1 (2 * half_of n m)) in
       omega (arith, above-is, codes, pow_mono {i = n} {j = 16} most)
 
-  down_computes : n - m < 16 → Computes (Round (rounding_of n m)) (change_depth n m)
-  unfolding applied change_depth
+  down_computes : n - m < 16 → Computes (round (rounding_of n m)) (change_depth n m)
+  unfolding round change_depth
   down_computes f x =
       let some : 1 ≤ half_of n m = one-le-pow (n - m - 1) 2 (omega arith) in
       let quotient = lifted (half_of n m) (times_above n m) (greatest m) x some to_the_end in
       rw (lt-leb n m h, mod-eq_of_lt f, above-is, divisor, mul-div_left (times_above n m) {n = 2 * half_of n m} (omega arith), quotient) (omega arith)
 
-pub change_computes : (n m : ℕ) → Scale n → Scale m → Computes (rule_of (change_of n m)) (change_depth n m)
+pub change_computes : (n m : ℕ) → Scale n → Scale m → Computes (changed (change_of n m)) (change_depth n m)
 change_computes n m s t x =
     elim (dec_le n m) [
       | yes h ↦ rw (le-leb n m h) (up_computes n m h x)

@@ -1,10 +1,10 @@
 -- The depths of e-sRGB codes, and the numbers of a depth (rules 1.1 to 1.5; PIMA 7667, 4.4.3 and A1).
 -- Assumes nothing.
-use Rattle.std.specs.Prelude.{ℕ, ◌+◌, ◌-◌, ◌*◌, ◌^◌, ◌≡◌, Bool, false, ◌||◌, eqb}
+use Rattle.std.specs.Prelude.{ℕ, ◌+◌, ◌-◌, ◌*◌, ◌^◌, ◌≡◌, Bool, false, ◌||◌, eqb, Result, Ok, Err}
+use Rattle.refusal.specs.declared.Refusal.{Refusal}
+use Rattle.refusal.specs.declared.Refusal.TheVariants.{DepthNotOffered}
 use Rattle.esrgb.specs.declared.Depth.{Depth}
 use Rattle.esrgb.specs.declared.Depth.TheVariants.{Ten, Twelve, Sixteen}
-use Rattle.esrgb.specs.declared.Offer.{Offer}
-use Rattle.esrgb.specs.declared.Offer.TheVariants.{Offered, NotOffered}
 
 -- Rule 1.1.
 abbrev pub offered : ℕ → Bool
@@ -15,10 +15,10 @@ bits Ten = 10
 bits Twelve = 12
 bits Sixteen = 16
 
--- What a number of bits names: a depth that is offered, or none.
-abbrev pub Names : ℕ → Offer → Type 0
-Names n (Offered d) = n ≡ bits d
-Names n NotOffered = offered n ≡ false
+-- What a number of bits names: a depth that is offered, or none, which is refused.
+abbrev pub Names : ℕ → Result Depth Refusal → Type 0
+Names n (Ok d) = n ≡ bits d
+Names n (Err r) = (offered n ≡ false) × (r ≡ DepthNotOffered)
 
 -- Rule 1.2: the greatest code.
 abbrev pub greatest : ℕ → ℕ

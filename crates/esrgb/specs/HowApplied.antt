@@ -6,23 +6,25 @@ use Rattle.esrgb.specs.declared.Line.{Line}
 use Rattle.esrgb.specs.declared.Cut.{Cut}
 use Rattle.esrgb.specs.declared.Gamut.{Gamut}
 use Rattle.esrgb.specs.declared.Rounding.{Rounding}
-use Rattle.esrgb.specs.declared.SampleRule.{SampleRule}
 use Rattle.esrgb.specs.declared.DepthChange.{DepthChange}
 use Rattle.esrgb.specs.declared.DepthChange.TheVariants.{Up, Down}
-use Rattle.esrgb.specs.declared.SampleRule.TheVariants.{Affine, ToEight, Round}
 
-unfoldable pub applied : SampleRule → ℕ → ℕ
-applied (Affine line) x = (line.factor * x + line.offset) % 65536
-applied (ToEight cut) x = min 255 ((x - cut.low) / 2 ^ (cut.shift % 16))
-applied (Round rounding) x = (min 65535 (x + rounding.lift) / 2 ^ (rounding.shift % 16) + 65536 - rounding.base) % 65536
+unfoldable pub affine : Line → ℕ → ℕ
+affine line x = (line.factor * x + line.offset) % 65536
 
-abbrev pub rule_of : DepthChange → SampleRule
-rule_of (Up line) = Affine line
-rule_of (Down rounding) = Round rounding
+unfoldable pub to_eight : Cut → ℕ → ℕ
+to_eight cut x = min 255 ((x - cut.low) / 2 ^ (cut.shift % 16))
 
--- A rule computes a definition, in the 16 bits of a sample.
-abbrev pub Computes : SampleRule → (ℕ → ℕ) → Type 0
-Computes rule f = (x : ℕ) → applied rule x % 65536 ≡ f x % 65536
+unfoldable pub round : Rounding → ℕ → ℕ
+round rounding x = (min 65535 (x + rounding.lift) / 2 ^ (rounding.shift % 16) + 65536 - rounding.base) % 65536
+
+abbrev pub changed : DepthChange → ℕ → ℕ
+changed (Up line) x = affine line x
+changed (Down rounding) x = round rounding x
+
+-- What a rule makes of a sample is a definition's, in the 16 bits of a sample.
+abbrev pub Computes : (ℕ → ℕ) → (ℕ → ℕ) → Type 0
+Computes rule f = (x : ℕ) → rule x % 65536 ≡ f x % 65536
 
 -- The numbers of the rules, at depths n and m. Others could compute the same, and are not meant.
 abbrev pub line_of : ℕ → Line

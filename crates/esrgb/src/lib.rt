@@ -3,36 +3,34 @@
 // definition of its depth, for every sample.
 #![tactic(auto)]
 
-ghost use Rattle.std.specs.Prelude.{◌≡◌};
+ghost use Rattle.std.specs.Prelude.{◌≡◌, ℕ};
 ghost use Rattle.esrgb.specs.Depths.{bits, Names, greatest, step};
 ghost use Rattle.esrgb.specs.Codes.{from_srgb, to_srgb};
-ghost use Rattle.esrgb.specs.HowApplied.{applied, line_of, cut_of, gamut_of, above_lowest, outside, change_of};
+ghost use Rattle.esrgb.specs.HowApplied.{affine, to_eight, round, line_of, cut_of, gamut_of, above_lowest, outside, change_of};
 
 use numbers::{excess, saturating_add};
+use refusal::Refusal;
 
 // A depth of e-sRGB.
-#[derive(Clone, Copy)]
+#[derive(Clone, Copy, Debug, PartialEq, Eq)]
 pub enum Depth {
     Ten,
     Twelve,
     Sixteen,
 }
 
-// What a number of bits names.
-#[derive(Clone, Copy)]
-pub enum Offer {
-    Offered(Depth),
-    NotOffered,
-}
+impl TryFrom<u32> for Depth {
+    type Error = Refusal;
 
-pub fn depth_of(n: u32) -> Offer
-    ensures { Names n result }
-{
-    match n {
-        10 => Offer::Offered(Depth::Ten),
-        12 => Offer::Offered(Depth::Twelve),
-        16 => Offer::Offered(Depth::Sixteen),
-        _ => Offer::NotOffered,
+    ghost try_from_gives = { Names };
+
+    fn try_from(bits: u32) -> Result<Depth, Refusal> {
+        match bits {
+            10 => Ok(Depth::Ten),
+            12 => Ok(Depth::Twelve),
+            16 => Ok(Depth::Sixteen),
+            _ => Err(Refusal::DepthNotOffered),
+        }
     }
 }
 
@@ -71,11 +69,11 @@ pub fn greatest_of(depth: Depth) -> u16
 
 // What is done to each sample of a picture. The numbers of a depth are worked out once, before the
 // loop, and the loop's arithmetic is on 16 bits, so that a compiler can do several samples at once.
-#[derive(Clone, Copy)]
-pub enum SampleRule {
-    Affine(Line),
-    ToEight(Cut),
-    Round(Rounding),
+pub trait SampleRule: Copy {
+    ghost applied: { Self → ℕ → ℕ };
+
+    fn apply(self, sample: u16) -> u16
+        ensures { result ≡ applied self sample };
 }
 
 // factor * sample + offset, in 16 bits.
@@ -85,11 +83,30 @@ pub struct Line {
     pub offset: u16,
 }
 
+impl SampleRule for Line {
+    ghost applied = { affine };
+
+    #[tactic(auto, unfolding(crate::specs::HowApplied::affine))]
+    fn apply(self, sample: u16) -> u16 {
+        ((self.factor as u32 * sample as u32 + self.offset as u32) % 65536) as u16
+    }
+}
+
 // (sample - low) / 2^shift, from 0 to 255.
 #[derive(Clone, Copy)]
 pub struct Cut {
     pub low: u16,
     pub shift: u16,
+}
+
+impl SampleRule for Cut {
+    ghost applied = { to_eight };
+
+    #[tactic(auto, unfolding(crate::specs::HowApplied::to_eight))]
+    fn apply(self, sample: u16) -> u16 {
+        let value = excess(sample, self.low) >> (self.shift % 16);
+        if 255 < value { 255 } else { value }
+    }
 }
 
 // (sample + lift) / 2^shift - base, in 16 bits, where the sum is at most 65,535.
@@ -100,32 +117,16 @@ pub struct Rounding {
     pub base: u16,
 }
 
-pub fn apply(rule: SampleRule, sample: u16) -> u16
-    ensures { result ≡ applied rule sample }
-{
-    match rule {
-        SampleRule::Affine(line) => ((line.factor as u32 * sample as u32 + line.offset as u32)
-            % 65536) as u16,
-        SampleRule::ToEight(cut) => to_eight(cut, sample),
-        SampleRule::Round(rounding) => rounded(rounding, sample),
+impl SampleRule for Rounding {
+    ghost applied = { round };
+
+    // The sum stops where codes are clipped, so that none needs a test. The difference may wrap: as one that
+    // stops at 0 it was slower.
+    #[tactic(auto, unfolding(crate::specs::HowApplied::round))]
+    fn apply(self, sample: u16) -> u16 {
+        let quotient = saturating_add(sample, self.lift) >> (self.shift % 16);
+        ((quotient as u32 + 65536 - self.base as u32) % 65536) as u16
     }
-}
-
-#[tactic(auto, unfolding(crate::specs::HowApplied::applied))]
-fn to_eight(cut: Cut, sample: u16) -> u16
-    ensures { result ≡ applied (SampleRule.ToEight cut) sample }
-{
-    let value = excess(sample, cut.low) >> (cut.shift % 16);
-    if 255 < value { 255 } else { value }
-}
-
-// The sum stops where codes are clipped, so that none needs a test. The difference may wrap: as one that stops
-// at 0 it was slower.
-fn rounded(rounding: Rounding, sample: u16) -> u16
-    ensures { result ≡ applied (SampleRule.Round rounding) sample }
-{
-    let quotient = saturating_add(sample, rounding.lift) >> (rounding.shift % 16);
-    ((quotient as u32 + 65536 - rounding.base as u32) % 65536) as u16
 }
 
 // The rule from sRGB.
@@ -228,7 +229,7 @@ pub struct SrgbSample {
 pub fn to_srgb(depth: Depth, code: u16) -> SrgbSample
     ensures { result ≡ to_srgb (bits depth) code }
 {
-    let value = to_eight(cut_of(depth), code) as u8;
+    let value = cut_of(depth).apply(code) as u8;
     SrgbSample {
         value,
         clipped: is_outside(gamut_of(depth), code),

@@ -8,10 +8,10 @@ use Rattle.esrgb.proofs.Eight.{to_srgb_byte, cut_value}
 use Rattle.esrgb.proofs.Held.{outside-clipped}
 use Rattle.esrgb.proofs.to_srgb.Goals as goal
 
-value-is : (c : goal.After-to_eight-value) → let a = c.args in c.to_eight-value.result ≡ srgb_value (bits a.depth) a.code
+value-is : (c : goal.After-apply-value) → let a = c.args in c.apply-value.result ≡ srgb_value (bits a.depth) a.code
 value-is c =
     let a = c.args in
-    rw (c.to_eight-value.ensures, c.cut_of.ensures) (cut_value (bits a.depth) a.code (scale a.depth))
+    rw (c.apply-value.ensures, c.cut_of.ensures) (cut_value (bits a.depth) a.code (scale a.depth))
 
 clipped-is : (c : goal.After-is_outside) → let a = c.args in c.is_outside.result ≡ (to_srgb (bits a.depth) a.code).clipped
 clipped-is c =

@@ -9,53 +9,31 @@ ghost use Rattle.numbers.specs.Bytes.{little_endian, low_bytes};
 ghost use Rattle.numbers.specs.HowRanked.{rank};
 
 // The number of two bytes, the low byte first.
-pub fn from_two(low: u8, high: u8) -> u16
-    ensures { result ≡ little_endian (low ∷ high ∷ []) }
+pub fn from_two(bytes: [u8; 2]) -> u16
+    ensures { result ≡ little_endian bytes }
 {
-    (low as u16) + 256 * (high as u16)
+    u16::from_le_bytes(bytes)
 }
 
 // The number of four bytes, the lowest first.
-pub fn from_four(a: u8, b: u8, c: u8, d: u8) -> u32
-    ensures { result ≡ little_endian (a ∷ b ∷ c ∷ d ∷ []) }
+pub fn from_four(bytes: [u8; 4]) -> u32
+    ensures { result ≡ little_endian bytes }
 {
-    (a as u32) + 256 * ((b as u32) + 256 * ((c as u32) + 256 * (d as u32)))
+    u32::from_le_bytes(bytes)
 }
 
 // The two bytes of a number.
-#[derive(Clone, Copy)]
-pub struct TwoBytes {
-    pub low: u8,
-    pub high: u8,
-}
-
-pub fn two_bytes(v: u16) -> TwoBytes
-    ensures { result.low ∷ result.high ∷ [] ≡ low_bytes 2 v }
+pub fn two_bytes(v: u16) -> [u8; 2]
+    ensures { result ≡ low_bytes 2 v }
 {
-    TwoBytes {
-        low: (v % 256) as u8,
-        high: (v / 256 % 256) as u8,
-    }
+    u16::to_le_bytes(v)
 }
 
 // The four bytes of a number, the lowest first.
-#[derive(Clone, Copy)]
-pub struct FourBytes {
-    pub a: u8,
-    pub b: u8,
-    pub c: u8,
-    pub d: u8,
-}
-
-pub fn four_bytes(v: u32) -> FourBytes
-    ensures { result.a ∷ result.b ∷ result.c ∷ result.d ∷ [] ≡ low_bytes 4 v }
+pub fn four_bytes(v: u32) -> [u8; 4]
+    ensures { result ≡ low_bytes 4 v }
 {
-    FourBytes {
-        a: (v % 256) as u8,
-        b: (v / 256 % 256) as u8,
-        c: (v / 256 / 256 % 256) as u8,
-        d: (v / 256 / 256 / 256 % 256) as u8,
-    }
+    u32::to_le_bytes(v)
 }
 
 // How far a number is above a limit, and 0 if it is not: a difference of ℕ. A processor has one instruction
@@ -63,20 +41,20 @@ pub fn four_bytes(v: u32) -> FourBytes
 pub fn excess(x: u16, limit: u16) -> u16
     ensures { result ≡ x - limit }
 {
-    if limit < x { x - limit } else { 0 }
+    x.saturating_sub(limit)
 }
 
 // The sum of two numbers, and the greatest of 16 bits if it is more. For this too there is one instruction.
 pub fn saturating_add(x: u16, y: u16) -> u16
     ensures { result ≡ min 65535 (x + y) }
 {
-    if 65535 - y < x { 65535 } else { x + y }
+    x.saturating_add(y)
 }
 
 pub fn lower(x: u32, y: u32) -> u32
     ensures { result ≡ min x y }
 {
-    if x < y { x } else { y }
+    x.min(y)
 }
 
 // The greatest so far, and one number more. Processors have an instruction for the greater of several pairs of

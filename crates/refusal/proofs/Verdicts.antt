@@ -4,7 +4,10 @@ use Prim.Native.Nat.{ℕ, ◌<◌}
 use native.Mathlib.Omega.{arith}
 use mathlib.Core.Path.{◌≡◌, refl, sym}
 use mathlib.Core.Bool.{Bool, true, false, cond}
-use Rattle.refusal.specs.Answers.{Verdict, sound, faulty, or_else, Said, accepted, refused, refused_at, refuses_or}
+use Rattle.std.specs.Prelude.{Option, None, Some}
+use Rattle.refusal.specs.declared.Fault.{Fault}
+use Rattle.refusal.specs.Refusals.{number_of}
+use Rattle.refusal.specs.Answers.{at_place, fault_said, Verdict, sound, faulty, or_else, Said, accepted, refused, refused_at, refuses_or}
 
 faulty-sound : (n : ℕ) → faulty n ≡ sound → ⊥
 faulty-sound n e = let z : ◌≡◌ {A = ℕ} 0 1 = cc in omega arith
@@ -49,6 +52,13 @@ not_accepted number n h = let z : ◌≡◌ {A = ℕ} 0 1 = cc in omega arith
 
 pub not_accepted_at : (number at n : ℕ) → refused_at number at ≡ accepted n → ⊥
 not_accepted_at number at n h = let z : ◌≡◌ {A = ℕ} 0 1 = cc in omega arith
+
+not_accepted_by : (number : ℕ) (place : Option ℕ) (n : ℕ) → at_place number place ≡ accepted n → ⊥
+not_accepted_by number None n h = not_accepted number n h
+not_accepted_by number (Some at) n h = not_accepted_at number at n h
+
+pub fault_not_accepted : (fault : Fault) (n : ℕ) → fault_said fault ≡ accepted n → ⊥
+fault_not_accepted fault n h = not_accepted_by (number_of fault.refusal) fault.place n h
 
 -- What holds of every refusal and of the rest.
 pub or_holds : (P : Said → Type 0) (v : Verdict) (rest : Said) → ((number : ℕ) → P (refused number)) → P rest → P (refuses_or v rest)

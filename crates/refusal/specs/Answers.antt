@@ -24,9 +24,12 @@ pub data Said : Type 0 where
   refused : ℕ → Said
   refused_at : ℕ → ℕ → Said
 
--- What a fault says: one that has no place, and one at a place.
+-- A fault that has no place, and one at a place; and what a fault says.
 abbrev pub nowhere : Refusal → Fault
 nowhere r = record { refusal = r; place = None }
+
+abbrev pub somewhere : Refusal → ℕ → Fault
+somewhere r at = record { refusal = r; place = Some at }
 
 abbrev pub at_place : ℕ → Option ℕ → Said
 at_place number None = refused number

@@ -2,9 +2,9 @@
 // the answer of an operation on buffers. It promises that a refusal has the number of section 8 of the rules.
 #![tactic(auto)]
 
-ghost use Rattle.std.specs.Prelude.{◌≡◌, None, Some};
+ghost use Rattle.std.specs.Prelude.{◌≡◌};
 ghost use Rattle.refusal.specs.Refusals.{number_of};
-ghost use Rattle.refusal.specs.Answers.{nowhere};
+ghost use Rattle.refusal.specs.Answers.{nowhere, somewhere};
 
 // Why an operation refuses, in the order of the numbers: document 01's "turned away".
 #[derive(Clone, Copy, Debug, PartialEq, Eq)]
@@ -83,7 +83,7 @@ impl From<Refusal> for Fault {
 impl Refusal {
     // The refusal of what is at a place.
     pub fn at(self, place: usize) -> Fault
-        ensures { (result.refusal ≡ self) × (result.place ≡ Some place) }
+        ensures { result ≡ somewhere self place }
     {
         Fault {
             refusal: self,

@@ -10,7 +10,7 @@ ghost use Rattle.samples.specs.Faults.{fault, samples_say, length_fault, in_orde
 ghost use Rattle.samples.specs.HowJudged.{least_of, all_within, at_fault, SoundTo};
 
 use numbers::{excess, from_two};
-use refusal::{Answer, Checked, Refusal};
+use refusal::{Answer, Refusal};
 
 // ---- sizes
 
@@ -42,7 +42,7 @@ fn wide_sample(src: &[u8], k: usize) -> u16
     requires { 2 * k + 1 < length src.now }
     ensures { result ≡ get_or (two_by_two src.now) k 0 }
 {
-    from_two(src[2 * k], src[2 * k + 1])
+    from_two([src[2 * k], src[2 * k + 1]])
 }
 
 // Sample k of those that a buffer holds.
@@ -68,7 +68,7 @@ pub fn sample(src: &[u8], wide: bool, k: usize) -> u16
 }
 
 // A pixel: three samples, in the order of the buffer.
-#[derive(Clone, Copy)]
+#[derive(Clone, Copy, Debug, PartialEq, Eq)]
 pub struct Pixel {
     pub first: u16,
     pub second: u16,
@@ -106,22 +106,22 @@ pub enum Coding {
 
 // Sample x, the k-th of a buffer of codes.
 #[tactic(auto, using(std::proofs::lemmas::Bool::Decides::nat_tests), unfolding(crate::specs::Faults::fault))]
-fn look_at(chroma: bool, greatest: u16, k: usize, x: u16) -> Checked
+fn look_at(chroma: bool, greatest: u16, k: usize, x: u16) -> Result<(), Refusal>
     ensures { verdict result ≡ fault (Coding.Codes greatest chroma) k x }
 {
     if greatest < x {
-        return Checked::Faulty(Refusal::SampleTooGreat);
+        return Err(Refusal::SampleTooGreat);
     }
     if x != 0 {
-        return Checked::Sound;
+        return Ok(());
     }
     if k % 3 == 0 {
-        return Checked::Sound;
+        return Ok(());
     }
     if chroma {
-        Checked::Faulty(Refusal::ChromaZero)
+        Err(Refusal::ChromaZero)
     } else {
-        Checked::Sound
+        Ok(())
     }
 }
 
@@ -141,12 +141,10 @@ fn sound_start(chroma: bool, greatest: u16, src: &[u8]) -> usize
     ensures { SoundTo chroma greatest (two_by_two src.now) result }
 {
     let end = src.len() / 6;
-    let mut i = 0;
-    while i < end {
+    for i in 0..end {
         if at_fault(chroma, greatest, pixel_at(src, true, i)) {
             return 3 * i;
         }
-        i += 1;
     }
     3 * end
 }
@@ -156,19 +154,13 @@ fn first_fault(chroma: bool, greatest: u16, src: &[u8], count: usize, start: usi
     requires { SoundTo chroma greatest (two_by_two src.now) start }
     ensures { said result ≡ samples_say (Coding.Codes greatest chroma) (accepted count) 0 (two_by_two src.now) }
 {
-    let end = src.len() / 2;
-    let mut k = start;
-    while k < end {
-        let found = look_at(chroma, greatest, k, wide_sample(src, k));
-        match found {
-            Checked::Sound => {}
-            Checked::Faulty(refusal) => {
-                return Answer::RefusedAt(refusal, 2 * k);
-            }
+    for k in start..src.len() / 2 {
+        match look_at(chroma, greatest, k, wide_sample(src, k)) {
+            Ok(()) => {}
+            Err(refusal) => return Err(refusal.at(2 * k)),
         }
-        k += 1;
     }
-    Answer::Done(count)
+    Ok(count)
 }
 
 // Are all samples within bounds? The loop has no early exit, so that a compiler can look at several
@@ -176,13 +168,10 @@ fn first_fault(chroma: bool, greatest: u16, src: &[u8], count: usize, start: usi
 fn all_within(least: u16, greatest: u16, src: &[u8]) -> bool
     ensures { result ≡ all_within least greatest (two_by_two src.now) }
 {
-    let end = src.len() / 2;
     let mut outside = 0;
-    let mut k = 0;
-    while k < end {
+    for k in 0..src.len() / 2 {
         let x = wide_sample(src, k);
         outside = outside | excess(least, x) | excess(x, greatest);
-        k += 1;
     }
     outside == 0
 }
@@ -206,11 +195,11 @@ pub fn judge(chroma: bool, greatest: u16, src: &[u8], pixels: usize) -> Answer
 {
     if greatest == 65535 {
         if !chroma {
-            return Answer::Done(pixels);
+            return Ok(pixels);
         }
     }
     if looks_sound(chroma, greatest, src) {
-        return Answer::Done(pixels);
+        return Ok(pixels);
     }
     let start = sound_start(chroma, greatest, src);
     first_fault(chroma, greatest, src, pixels, start)
@@ -225,12 +214,12 @@ pub fn whole_pixels(wide: bool, len: usize) -> Answer
     let sample_in = sample_size(wide);
     let pixel_in = pixel_size(wide);
     if len % sample_in != 0 {
-        return Answer::Refused(Refusal::NotWholeSamples);
+        return Err(Refusal::NotWholeSamples.into());
     }
     if len % pixel_in != 0 {
-        return Answer::Refused(Refusal::NotWholePixels);
+        return Err(Refusal::NotWholePixels.into());
     }
-    Answer::Done(len / pixel_in)
+    Ok(len / pixel_in)
 }
 
 // Is the room what so many pixels of the result need? Quotients are compared, since a product could overflow.
@@ -249,17 +238,11 @@ fn fits(wide: bool, pixels: usize, room: usize) -> bool
 pub fn count_pixels(wide_in: bool, wide_out: bool, len: usize, room: usize) -> Answer
     ensures { said result ≡ in_order true wide_in wide_out len room (accepted (len / pixel_size wide_in)) }
 {
-    let counted = whole_pixels(wide_in, len);
-    match counted {
-        Answer::Done(pixels) => {
-            if !fits(wide_out, pixels, room) {
-                return Answer::Refused(Refusal::WrongDestinationLength);
-            }
-        }
-        Answer::Refused(_) => {}
-        Answer::RefusedAt(_, _) => {}
+    let pixels = whole_pixels(wide_in, len)?;
+    if !fits(wide_out, pixels, room) {
+        return Err(Refusal::WrongDestinationLength.into());
     }
-    counted
+    Ok(pixels)
 }
 
 // What is said of a source in bytes, for a result whose samples are wide or not, in so much room: all
@@ -270,12 +253,8 @@ pub fn examine(coding: Coding, wide_out: bool, src: &[u8], room: usize) -> Answe
     match coding {
         Coding::Bytes => count_pixels(false, wide_out, src.len(), room),
         Coding::Codes { greatest, chroma } => {
-            let counted = count_pixels(true, wide_out, src.len(), room);
-            match counted {
-                Answer::Done(pixels) => judge(chroma, greatest, src, pixels),
-                Answer::Refused(_) => counted,
-                Answer::RefusedAt(_, _) => counted,
-            }
+            let pixels = count_pixels(true, wide_out, src.len(), room)?;
+            judge(chroma, greatest, src, pixels)
         }
     }
 }

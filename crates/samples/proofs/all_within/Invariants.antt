@@ -1,5 +1,4 @@
 -- `samples::all_within` meets its contract. The invariant: nothing gathered so far, and the samples left within bounds, is all of them within.
-use Prim.Native.Nat.{◌≤◌, ◌-◌}
 use mathlib.Core.Path.{◌≡◌}
 use mathlib.Core.Bool.{◌&&◌}
 use lib.Dec.{eqb}
@@ -10,7 +9,4 @@ use Rattle.samples.proofs.all_within.Given as goal
 
 abbrev pub invariant-loop-k : goal.invariant-loop-k
 invariant-loop-k l =
-    (l.k ≤ l.end) × (all_within l.least l.greatest (two_by_two l.src) ≡ eqb l.outside 0 && all_within l.least l.greatest (drop l.k (two_by_two l.src)))
-
-abbrev pub decreases-loop-k : goal.decreases-loop-k
-decreases-loop-k l = l.end - l.k
+    all_within l.least l.greatest (two_by_two l.src) ≡ eqb l.outside 0 && all_within l.least l.greatest (drop l.k (two_by_two l.src))

@@ -5,7 +5,8 @@ use mathlib.Core.Bool.{Bool}
 use mathlib.Core.List.{List, []}
 use native.Mathlib.Omega.{arith}
 use lib.ListN.{length, get_or, drop, drop_of_length-le}
-use Rattle.refusal.specs.declared.Checked.{Checked}
+use Rattle.std.specs.Prelude.{Result}
+use Rattle.refusal.specs.declared.Refusal.{Refusal}
 use Rattle.samples.specs.declared.Coding.TheVariants.{Codes}
 use Rattle.samples.proofs.Reading.{length_two}
 use Rattle.samples.proofs.Judging.{say_at}
@@ -16,7 +17,7 @@ use Rattle.samples.proofs.first_fault.Goals as goal
 
 -- What was found of the k-th sample decides, or those behind it do.
 judged_here :
-    (chroma : Bool) (greatest count : ℕ) (xs : List ℕ) (k x : ℕ) (judged answer : Checked) → k < length xs → x ≡ get_or xs k 0
+    (chroma : Bool) (greatest count : ℕ) (xs : List ℕ) (k x : ℕ) (judged answer : Result Unit Refusal) → k < length xs → x ≡ get_or xs k 0
     → verdict judged ≡ fault (Codes greatest chroma) k x → judged ≡ answer
     → samples_say (Codes greatest chroma) (accepted count) k (drop k xs)
     ≡ decides (verdict answer) (2 * k) (samples_say (Codes greatest chroma) (accepted count) (k + 1) (drop (k + 1) xs))
@@ -27,28 +28,27 @@ judged_here chroma greatest count xs k x judged answer below is said e =
 
 pub loop-k-init : goal.loop-k-init
 loop-k-init c =
-    (omega (arith, c.requires.inside, length_two c.args.src.now), c.requires.skips (accepted c.args.count))
+    c.requires.skips (accepted c.args.count)
 
-pub returns-in-Faulty : goal.returns-in-Faulty
-returns-in-Faulty c =
+pub returns-in-Err : goal.returns-in-Err
+returns-in-Err c =
     let a = c.args in
     let below : c.loop-k.k < length (two_by_two a.src.now) = omega (arith, length_two a.src.now) in
-    sym
-    (c.loop-k.invariant.1
-    ∙ judged_here a.chroma a.greatest a.count (two_by_two a.src.now) c.loop-k.k _ _ _ below c.wide_sample.ensures c.look_at-found.ensures c.in-Faulty.is)
+    rw c.at.ensures
+    (sym
+    (c.loop-k.invariant
+    ∙ judged_here a.chroma a.greatest a.count (two_by_two a.src.now) c.loop-k.k _ _ _ below c.wide_sample.ensures c.look_at.ensures c.in-Err.is))
 
 pub loop-k-preserved : goal.loop-k-preserved
 loop-k-preserved c =
     let a = c.args in
-    let below : c.loop-k.k < length (two_by_two a.src.now) = omega (arith, length_two a.src.now) in (
-      omega arith,
-      c.loop-k.invariant.1
-          ∙ judged_here a.chroma a.greatest a.count (two_by_two a.src.now) c.loop-k.k _ _ _ below c.wide_sample.ensures c.look_at-found.ensures c.in-Sound.is,
-    )
+    let below : c.loop-k.k < length (two_by_two a.src.now) = omega (arith, length_two a.src.now) in
+    c.loop-k.invariant
+    ∙ judged_here a.chroma a.greatest a.count (two_by_two a.src.now) c.loop-k.k _ _ _ below c.wide_sample.ensures c.look_at.ensures c.in-Ok.is
 
 pub returns : goal.returns
 unfolding samples_say
 returns c =
     let a = c.args in
     let rest : drop c.loop-k.k (two_by_two a.src.now) ≡ [] = drop_of_length-le _ {i = c.loop-k.k} (omega (arith, length_two a.src.now)) in
-    sym (c.loop-k.invariant.1 ∙ rw rest)
+    sym (c.loop-k.invariant ∙ rw rest)

@@ -1,5 +1,4 @@
 -- What is left of the samples says what all say.
-use Prim.Native.Nat.{◌≤◌, ◌-◌}
 use mathlib.Core.Path.{◌≡◌}
 use lib.ListN.{drop}
 use Rattle.samples.specs.declared.Coding.TheVariants.{Codes}
@@ -9,7 +8,4 @@ use Rattle.samples.specs.Faults.{samples_say}
 use Rattle.samples.proofs.first_fault.Given as goal
 
 abbrev pub invariant-loop-k : goal.invariant-loop-k
-invariant-loop-k l = (l.k ≤ l.end) × (samples_say (Codes l.greatest l.chroma) (accepted l.count) 0 (two_by_two l.src) ≡ samples_say (Codes l.greatest l.chroma) (accepted l.count) l.k (drop l.k (two_by_two l.src)))
-
-abbrev pub decreases-loop-k : goal.decreases-loop-k
-decreases-loop-k l = l.end - l.k
+invariant-loop-k l = samples_say (Codes l.greatest l.chroma) (accepted l.count) 0 (two_by_two l.src) ≡ samples_say (Codes l.greatest l.chroma) (accepted l.count) l.k (drop l.k (two_by_two l.src))

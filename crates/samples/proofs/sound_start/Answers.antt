@@ -10,7 +10,5 @@ pub loop-i-preserved : goal.loop-i-preserved
 loop-i-preserved c =
     let a = c.args in
     let i = c.loop-i.i in
-    let sound = rw c.pixel_at.ensures at (sym c.at_fault.ensures ∙ c.if-at_fault.false) in (
-      omega arith,
-      sound_more a.chroma a.greatest (two_by_two a.src.now) i (omega (arith, length_two a.src.now)) sound c.loop-i.invariant.1,
-    )
+    let sound = rw c.pixel_at.ensures at (sym c.at_fault.ensures ∙ c.if-at_fault.false) in
+    sound_more a.chroma a.greatest (two_by_two a.src.now) i (omega (arith, length_two a.src.now)) sound c.loop-i.invariant

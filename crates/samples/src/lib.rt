@@ -104,63 +104,84 @@ pub enum Coding {
     Codes { greatest: u16, chroma: bool },
 }
 
-// Sample x, the k-th of a buffer of codes.
-#[tactic(auto, using(std::proofs::lemmas::Bool::Decides::nat_tests), unfolding(crate::specs::Faults::fault))]
-fn look_at(chroma: bool, greatest: u16, k: usize, x: u16) -> Result<(), Refusal>
-    ensures { verdict result ≡ fault (Coding.Codes greatest chroma) k x }
-{
-    if greatest < x {
-        return Err(Refusal::SampleTooGreat);
-    }
-    if x != 0 {
-        return Ok(());
-    }
-    if k % 3 == 0 {
-        return Ok(());
-    }
-    if chroma {
-        Err(Refusal::ChromaZero)
-    } else {
-        Ok(())
-    }
+// What makes a code faulty: to be above the greatest or, of luma and chroma, to be a chroma of 0.
+#[derive(Clone, Copy)]
+struct Limits {
+    greatest: u16,
+    chroma: bool,
 }
 
-// Is one of a pixel's samples at fault? One answer for the three, with no branch between them.
-fn at_fault(chroma: bool, greatest: u16, p: Pixel) -> bool
-    ensures { result ≡ at_fault chroma greatest p }
-{
-    (greatest < p.first)
-        | (greatest < p.second)
-        | (greatest < p.third)
-        | (chroma & ((p.second == 0) | (p.third == 0)))
-}
-
-// The number of the first sample of the first pixel at fault or, if there is none, of the sample behind
-// the last whole pixel. It is quick because a pixel takes one test.
-fn sound_start(chroma: bool, greatest: u16, src: &[u8]) -> usize
-    ensures { SoundTo chroma greatest (two_by_two src.now) result }
-{
-    let end = src.len() / 6;
-    for i in 0..end {
-        if at_fault(chroma, greatest, pixel_at(src, true, i)) {
-            return 3 * i;
+impl Limits {
+    // Sample x, the k-th of a buffer of codes.
+    #[tactic(auto, using(std::proofs::lemmas::Bool::Decides::nat_tests), unfolding(crate::specs::Faults::fault))]
+    fn look_at(self, k: usize, x: u16) -> Result<(), Refusal>
+        ensures { verdict result ≡ fault (Coding.Codes self.greatest self.chroma) k x }
+    {
+        if self.greatest < x {
+            return Err(Refusal::SampleTooGreat);
+        }
+        if x != 0 {
+            return Ok(());
+        }
+        if k % 3 == 0 {
+            return Ok(());
+        }
+        if self.chroma {
+            Err(Refusal::ChromaZero)
+        } else {
+            Ok(())
         }
     }
-    3 * end
-}
 
-// The samples from number `start` on, up to the first at fault.
-fn first_fault(chroma: bool, greatest: u16, src: &[u8], count: usize, start: usize) -> Answer
-    requires { SoundTo chroma greatest (two_by_two src.now) start }
-    ensures { said result ≡ samples_say (Coding.Codes greatest chroma) (accepted count) 0 (two_by_two src.now) }
-{
-    for k in start..src.len() / 2 {
-        match look_at(chroma, greatest, k, wide_sample(src, k)) {
-            Ok(()) => {}
-            Err(refusal) => return Err(refusal.at(2 * k)),
+    // Is one of a pixel's samples at fault? One answer for the three, with no branch between them.
+    fn at_fault(self, p: Pixel) -> bool
+        ensures { result ≡ at_fault self.chroma self.greatest p }
+    {
+        (self.greatest < p.first)
+            | (self.greatest < p.second)
+            | (self.greatest < p.third)
+            | (self.chroma & ((p.second == 0) | (p.third == 0)))
+    }
+
+    // The number of the first sample of the first pixel at fault or, if there is none, of the sample behind
+    // the last whole pixel. It is quick because a pixel takes one test.
+    fn sound_start(self, src: &[u8]) -> usize
+        ensures { SoundTo self.chroma self.greatest (two_by_two src.now) result }
+    {
+        let end = src.len() / 6;
+        for i in 0..end {
+            if self.at_fault(pixel_at(src, true, i)) {
+                return 3 * i;
+            }
+        }
+        3 * end
+    }
+
+    // The samples from number `start` on, up to the first at fault.
+    fn first_fault(self, src: &[u8], count: usize, start: usize) -> Answer
+        requires { SoundTo self.chroma self.greatest (two_by_two src.now) start }
+        ensures { said result ≡ samples_say (Coding.Codes self.greatest self.chroma) (accepted count) 0 (two_by_two src.now) }
+    {
+        for k in start..src.len() / 2 {
+            match self.look_at(k, wide_sample(src, k)) {
+                Ok(()) => {}
+                Err(refusal) => return Err(refusal.at(2 * k)),
+            }
+        }
+        Ok(count)
+    }
+
+    // The quick look. Each call names the least sample, so that the compiler makes a loop of its own for it:
+    // nothing is below 0.
+    fn looks_sound(self, src: &[u8]) -> bool
+        ensures { result ≡ all_within (least_of self.chroma) self.greatest (two_by_two src.now) }
+    {
+        if self.chroma {
+            all_within(1, self.greatest, src)
+        } else {
+            all_within(0, self.greatest, src)
         }
     }
-    Ok(count)
 }
 
 // Are all samples within bounds? The loop has no early exit, so that a compiler can look at several
@@ -176,18 +197,6 @@ fn all_within(least: u16, greatest: u16, src: &[u8]) -> bool
     outside == 0
 }
 
-// The quick look. Each call names the least sample, so that the compiler makes a loop of its own for it:
-// nothing is below 0.
-fn looks_sound(chroma: bool, greatest: u16, src: &[u8]) -> bool
-    ensures { result ≡ all_within (least_of chroma) greatest (two_by_two src.now) }
-{
-    if chroma {
-        all_within(1, greatest, src)
-    } else {
-        all_within(0, greatest, src)
-    }
-}
-
 // The first fault in a buffer of codes, or the pixel count if there is none. Nearly every picture is
 // sound, and then the quick look decides. Codes of 16 bits cannot be at fault and are not looked at.
 pub fn judge(chroma: bool, greatest: u16, src: &[u8], pixels: usize) -> Answer
@@ -198,11 +207,12 @@ pub fn judge(chroma: bool, greatest: u16, src: &[u8], pixels: usize) -> Answer
             return Ok(pixels);
         }
     }
-    if looks_sound(chroma, greatest, src) {
+    let limits = Limits { greatest, chroma };
+    if limits.looks_sound(src) {
         return Ok(pixels);
     }
-    let start = sound_start(chroma, greatest, src);
-    first_fault(chroma, greatest, src, pixels, start)
+    let start = limits.sound_start(src);
+    limits.first_fault(src, pixels, start)
 }
 
 // ---- the order of refusals

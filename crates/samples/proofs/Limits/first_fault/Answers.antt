@@ -1,4 +1,4 @@
--- `samples::first_fault` meets its contract: the samples before the one at fault are sound.
+-- `samples::Limits::first_fault` meets its contract: the samples before the one at fault are sound.
 use Prim.Native.Nat.{ℕ, ◌+◌, ◌*◌, ◌<◌}
 use mathlib.Core.Path.{◌≡◌, sym, ap, ◌∙◌}
 use mathlib.Core.Bool.{Bool}
@@ -13,7 +13,7 @@ use Rattle.samples.proofs.Judging.{say_at}
 use Rattle.refusal.specs.Answers.{verdict, accepted, decides}
 use Rattle.samples.specs.Samples.{two_by_two}
 use Rattle.samples.specs.Faults.{fault, samples_say}
-use Rattle.samples.proofs.first_fault.Goals as goal
+use Rattle.samples.proofs.Limits.first_fault.Goals as goal
 
 -- What was found of the k-th sample decides, or those behind it do.
 judged_here :
@@ -37,14 +37,14 @@ returns-in-Err c =
     rw c.at.ensures
     (sym
     (c.loop-k.invariant
-    ∙ judged_here a.chroma a.greatest a.count (two_by_two a.src.now) c.loop-k.k _ _ _ below c.wide_sample.ensures c.look_at.ensures c.in-Err.is))
+    ∙ judged_here a.self.chroma a.self.greatest a.count (two_by_two a.src.now) c.loop-k.k _ _ _ below c.wide_sample.ensures c.look_at.ensures c.in-Err.is))
 
 pub loop-k-preserved : goal.loop-k-preserved
 loop-k-preserved c =
     let a = c.args in
     let below : c.loop-k.k < length (two_by_two a.src.now) = omega (arith, length_two a.src.now) in
     c.loop-k.invariant
-    ∙ judged_here a.chroma a.greatest a.count (two_by_two a.src.now) c.loop-k.k _ _ _ below c.wide_sample.ensures c.look_at.ensures c.in-Ok.is
+    ∙ judged_here a.self.chroma a.self.greatest a.count (two_by_two a.src.now) c.loop-k.k _ _ _ below c.wide_sample.ensures c.look_at.ensures c.in-Ok.is
 
 pub returns : goal.returns
 unfolding samples_say

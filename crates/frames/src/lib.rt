@@ -6,7 +6,7 @@ ghost use Rattle.std.specs.Prelude.{◌≡◌};
 ghost use Rattle.spool.specs.Find.{find_said, find_says};
 ghost use Rattle.frames.specs.Walk.{next_number, started, IsStep};
 
-use spool::{Found, Opened, find, open, pixels};
+use spool::{Found, find, open, pixels};
 
 // The number after a step: it stays if the file does not open, 20 included, or has no such frame; any
 // other refusal, 21 too, is of the frame alone, so that the walk moves on.
@@ -14,13 +14,8 @@ fn next_number(file: &[u8], number: usize) -> usize
     ensures { result ≡ next_number file.now number }
 {
     match open(file) {
-        Opened::Spool(contents) => {
-            if number < contents.count as usize {
-                return number + 1;
-            }
-            number
-        }
-        Opened::Refused(_) => number,
+        Ok(contents) if number < contents.count as usize => number + 1,
+        _ => number,
     }
 }
 
@@ -31,8 +26,8 @@ pub struct Visit {
     pub next: usize,
 }
 
-// One step from a number.
-fn visit_at(file: &[u8], number: usize) -> Visit
+// One step from a number, for callers that have the file and the number apart.
+pub fn step_from(file: &[u8], number: usize) -> Visit
     ensures { (find_said result.found ≡ find_says file.now number) × (result.next ≡ next_number file.now number) }
 {
     let found = find(file, number);
@@ -72,7 +67,7 @@ pub fn frames_of<'a>(file: &'a [u8]) -> Frames<'a>
 pub fn step<'a>(frames: Frames<'a>) -> Stepped<'a>
     ensures { IsStep frames.entry result }
 {
-    let visit = visit_at(frames.file, frames.next);
+    let visit = step_from(frames.file, frames.next);
     let pixels = pixels(frames.file, frames.next);
     Stepped {
         frame: FoundFrame {
@@ -83,16 +78,5 @@ pub fn step<'a>(frames: Frames<'a>) -> Stepped<'a>
             file: frames.file,
             next: visit.next,
         },
-    }
-}
-
-// One step from a number, for callers that have the file and the number apart.
-pub fn step_from(file: &[u8], number: usize) -> Visit
-    ensures { (find_said result.found ≡ find_says file.now number) × (result.next ≡ next_number file.now number) }
-{
-    let stepped = step(Frames { file, next: number });
-    Visit {
-        found: stepped.frame.found,
-        next: stepped.rest.next,
     }
 }

@@ -1,7 +1,7 @@
 -- How large the numbers are that a record's width, height and stride lead to, and the sizes of the layouts.
 -- Assumes nothing.
 use Prim.Native.Nat.{ℕ, ◌+◌, ◌-◌, ◌*◌, ◌^◌, ◌≤◌, ◌<◌}
-use native.Mathlib.Nat.{le_trans, mul-le-mul}
+use native.Mathlib.Nat.{mul-le-mul}
 use native.Mathlib.Omega.{arith}
 use mathlib.Core.Path.{◌≡◌}
 use mathlib.Core.Bool.{Bool, true, false}
@@ -69,7 +69,3 @@ record_sizes Strided = (omega arith, omega arith)
 -- The bytes of so many records.
 pub table_small : (l : Layout) {size count most : ℕ} → size ≡ record_size l → count ≤ most → size * count ≤ record_size Strided * most
 table_small l e few = rw e (mul-le-mul (record_sizes l).1 few)
-
--- What the plain header holds, a header of either layout has room for.
-pub header_holds : (l : Layout) {need size room : ℕ} → need ≤ header_size Plain → size ≡ header_size l → size ≤ room → need ≤ room
-header_holds l {size = size} fits e h = le_trans (le_trans fits (header_sizes l).0) (rw e at h)

@@ -5,7 +5,7 @@ use mathlib.Core.Path.{◌≡◌, sym, ap, ◌∙◌}
 use mathlib.Core.Bool.{Bool, true, false, not, ◌||◌, ◌&&◌}
 use lib.Dec.{eqb, ltb}
 use native.Mathlib.Omega.{arith}
-use native.Mathlib.Nat.{zero-add, zero-mul, one-mul, add-mul}
+use native.Mathlib.Nat.{zero-mul, one-mul, add-mul}
 use borrow.Author.Tests.{lt-ltb, le-ltb, ltb-false, eqb-false}
 use Rattle.numbers.proofs.Booleans.{or_false}
 use Rattle.refusal.specs.Answers.{sound, faulty}
@@ -16,15 +16,6 @@ use Rattle.records.specs.Pixels.{row_bytes, pixel_bytes, span_bytes, has_gaps, p
 use Rattle.records.specs.Faults.{is_pair, bad_side, side_limit, record_fault, stride_fault}
 
 module _ (s : StridedRecord) where
-  pub no_rows : {row : ℕ} → s.frame.height ≡ 0 → row ≡ row_bytes s.frame → row ≡ span_bytes s
-  no_rows none row = rw (none, row) (sym (ap (λ (rows : ℕ). rows + row_bytes s.frame) (zero-mul s.stride) ∙ zero-add (row_bytes s.frame)))
-
-  pub one-row : s.frame.height ≤ 1 → false ≡ has_gaps s
-  one-row h = simp (le-ltb _ _ h)
-
-  pub more_rows : {row : ℕ} → 1 < s.frame.height → row ≡ row_bytes s.frame → ltb row s.stride ≡ has_gaps s
-  more_rows h e = rw (e, lt-ltb _ _ h)
-
   pub below_row : (gapsTaken : Bool) → s.stride < row_bytes s.frame → faulty 21 ≡ stride_fault gapsTaken s
   unfolding stride_fault
   below_row gapsTaken h = simp (lt-ltb _ _ h)
@@ -33,10 +24,6 @@ module _ (s : StridedRecord) where
     pub gaps_taken : {gapsTaken : Bool} → gapsTaken ≡ true → sound ≡ stride_fault gapsTaken s
     unfolding stride_fault
     gaps_taken e = rw (e, le-ltb _ _ fits)
-
-    pub gaps_not_taken : {gapsTaken : Bool} → gapsTaken ≡ false → has_gaps s ≡ true → faulty 21 ≡ stride_fault gapsTaken s
-    unfolding stride_fault
-    gaps_not_taken e gaps = rw (e, le-ltb _ _ fits, gaps)
 
     pub no_gaps : {gapsTaken : Bool} → gapsTaken ≡ false → has_gaps s ≡ false → sound ≡ stride_fault gapsTaken s
     unfolding stride_fault

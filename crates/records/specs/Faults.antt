@@ -1,8 +1,12 @@
 -- What the records of a spool may say (rules 7.3 and 7.4), and how many there may be (7.2).
 -- Assumes nothing.
-use Rattle.std.specs.Prelude.{ℕ, Bool, false, cond, not, ◌||◌, ◌&&◌, eqb, ltb}
+use Rattle.std.specs.Prelude.{ℕ, ◌<◌, ◌≡◌, ◌⊎◌, Bool, false, cond, not, ◌||◌, ◌&&◌, eqb, ltb, Result, Ok, Err}
 use Rattle.refusal.specs.Answers.{Verdict, sound, faulty}
 use Rattle.esrgb.specs.Depths.{offered}
+use Rattle.refusal.specs.declared.Refusal.{Refusal}
+use Rattle.refusal.specs.declared.Refusal.TheVariants.{UnknownKind}
+use Rattle.records.specs.declared.Kind.{Kind}
+use Rattle.records.specs.declared.Kind.TheVariants.{Srgb, Esrgb, LumaChroma, Esycc, Sycc}
 use Rattle.records.specs.declared.FrameRecord.{FrameRecord}
 use Rattle.records.specs.declared.StridedRecord.{StridedRecord}
 use Rattle.records.specs.Pixels.{row_bytes, has_gaps}
@@ -10,6 +14,18 @@ use Rattle.records.specs.Pixels.{row_bytes, has_gaps}
 -- Rule 7.2: the most frames that a spool has.
 abbrev pub frame_limit : ℕ
 frame_limit = 96
+
+-- Rule 7.3: the number of a kind, and what a number names.
+abbrev pub kind_number : Kind → ℕ
+kind_number Srgb = 1
+kind_number Esrgb = 2
+kind_number LumaChroma = 3
+kind_number Esycc = 4
+kind_number Sycc = 5
+
+abbrev pub IsKind : ℕ → Result Kind Refusal → Type 0
+IsKind n (Ok kind) = n ≡ kind_number kind
+IsKind n (Err r) = ((n ≡ 0) ⊎ (5 < n)) × (r ≡ UnknownKind)
 
 -- Rule 7.3: kinds, with their bits. sRGB and sYCC have 8, and e-sRGB, luma and chroma, and e-sYCC have a depth.
 abbrev pub is_pair : ℕ → ℕ → Bool

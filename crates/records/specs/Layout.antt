@@ -1,16 +1,12 @@
 -- How the header and the records of a spool file are laid out (rule 7.2). What the two layouts differ in is a table by layout.
 -- Assumes nothing.
-use Rattle.std.specs.Prelude.{ℕ, ◌+◌, ◌≤◌, ◌<◌, cond, ◌&&◌, List, [], ◌∷◌, ◌++◌, ◌≡◌, length, get_or, take, drop, eqb, leb}
+use Rattle.std.specs.Prelude.{ℕ, ◌+◌, ◌≤◌, ◌<◌, cond, ◌&&◌, List, [], ◌∷◌, ◌++◌, ◌≡◌, length, get_or, take, drop, eqb, leb, Option, None, Some}
 use Rattle.numbers.specs.Bytes.{little_endian}
 use Rattle.records.specs.declared.Layout.{Layout}
 use Rattle.records.specs.declared.Layout.TheVariants.{Plain, Strided}
 use Rattle.records.specs.declared.Header.{Header}
 use Rattle.records.specs.declared.FrameRecord.{FrameRecord}
 use Rattle.records.specs.declared.StridedRecord.{StridedRecord}
-use Rattle.records.specs.declared.HeaderRead.{HeaderRead}
-use Rattle.records.specs.declared.HeaderRead.TheVariants as header
-use Rattle.records.specs.declared.RecordRead.{RecordRead}
-use Rattle.records.specs.declared.RecordRead.TheVariants.{Record, Short}
 use Rattle.records.specs.Fields.{size_of, numbers_in, field_bytes}
 use Rattle.records.specs.Pixels.{row_bytes}
 
@@ -104,10 +100,10 @@ unfoldable pub record_in : Layout → List ℕ → StridedRecord
 record_in l bytes = record_from (numbers_in (record_widths l) bytes)
 
 -- What reading a header gives, and reading a record at a place: nothing if some of its bytes are missing.
-abbrev pub ReadsHeader : Layout → List ℕ → HeaderRead → Type 0
-ReadsHeader l bytes (header.Header h) = (header_size l ≤ length bytes) × (h ≡ header_in l bytes)
-ReadsHeader l bytes header.Short = length bytes < header_size l
+abbrev pub ReadsHeader : Layout → List ℕ → Option Header → Type 0
+ReadsHeader l bytes (Some h) = (header_size l ≤ length bytes) × (h ≡ header_in l bytes)
+ReadsHeader l bytes None = length bytes < header_size l
 
-abbrev pub ReadsRecord : Layout → List ℕ → ℕ → RecordRead → Type 0
-ReadsRecord l bytes at (Record s) = (at + record_size l ≤ length bytes) × (s ≡ record_in l (drop at bytes))
-ReadsRecord l bytes at Short = length bytes < at + record_size l
+abbrev pub ReadsRecord : Layout → List ℕ → ℕ → Option StridedRecord → Type 0
+ReadsRecord l bytes at (Some s) = (at + record_size l ≤ length bytes) × (s ≡ record_in l (drop at bytes))
+ReadsRecord l bytes at None = length bytes < at + record_size l

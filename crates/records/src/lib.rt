@@ -12,11 +12,11 @@ ghost use Rattle.records.specs.declared.Layout.TheVariants.{Plain, Strided};
 ghost use Rattle.records.specs.Layout.{header_size, record_size, first_number, layout_of, other_layout, no_record, with_offset, header_in, record_in, record_bytes, ReadsHeader, ReadsRecord};
 ghost use Rattle.records.specs.HowStored.{frame_in, stride_in, long_header};
 ghost use Rattle.records.specs.Pixels.{row_bytes, pixel_bytes, span_bytes, has_gaps, packed};
-ghost use Rattle.records.specs.Faults.{frame_limit, is_pair, bad_side, record_fault, stride_fault};
+ghost use Rattle.records.specs.Faults.{IsKind, frame_limit, is_pair, bad_side, record_fault, stride_fault};
 
-use esrgb::Offer;
+use esrgb::Depth;
 use numbers::{four_bytes, from_four, from_two, two_bytes};
-use refusal::{Checked, Refusal};
+use refusal::Refusal;
 use samples::pixel_size;
 
 // The bytes of a header and of a record, in the plain layout and in the strided one.
@@ -54,9 +54,9 @@ pub struct Header {
     pub size: u16,
 }
 
-// A frame's record, its numbers in the order in which they stand in the file.
+// A frame's record, its numbers in the order in which they stand in the file. C lends records of this shape.
 #[repr(C)]
-#[derive(Clone, Copy)]
+#[derive(Clone, Copy, Default)]
 pub struct FrameRecord {
     pub offset: u32,
     pub width: u16,
@@ -68,7 +68,7 @@ pub struct FrameRecord {
 }
 
 // A record with its stride, document 02's row step: the bytes from the start of a row to that of the next.
-#[derive(Clone, Copy)]
+#[derive(Clone, Copy, Default)]
 pub struct StridedRecord {
     pub frame: FrameRecord,
     pub stride: u32,
@@ -78,27 +78,14 @@ pub struct StridedRecord {
 pub fn no_record() -> StridedRecord
     ensures { result ≡ no_record }
 {
-    StridedRecord {
-        frame: FrameRecord {
-            offset: 0,
-            width: 0,
-            height: 0,
-            kind: 0,
-            bits: 0,
-            copies: 0,
-            order: 0,
-        },
-        stride: 0,
-    }
+    StridedRecord::default()
 }
 
 // A record with another offset of its pixels.
 pub fn with_offset(offset: u32, frame: FrameRecord) -> FrameRecord
     ensures { result ≡ with_offset offset frame }
 {
-    let mut placed = frame;
-    placed.offset = offset;
-    placed
+    FrameRecord { offset, ..frame }
 }
 
 // ---- the layouts
@@ -142,92 +129,79 @@ fn first_number(layout: Layout, count: u16) -> u16
 
 // ---- from bytes
 
-// The number of the two bytes at a place, and of the four.
-fn two_at(bytes: &[u8], at: usize) -> u16
-    requires { at + 2 ≤ length bytes.now }
-    ensures { result ≡ little_endian (take 2 (drop at bytes.now)) }
+// So many bytes from a place on.
+fn bytes_at<const N: usize>(bytes: &[u8], at: usize) -> [u8; N]
+    requires { at + N ≤ length bytes.now }
+    ensures { result ≡ take N (drop at bytes.now) }
 {
-    from_two(bytes[at], bytes[at + 1])
-}
-
-fn four_at(bytes: &[u8], at: usize) -> u32
-    requires { at + 4 ≤ length bytes.now }
-    ensures { result ≡ little_endian (take 4 (drop at bytes.now)) }
-{
-    from_four(bytes[at], bytes[at + 1], bytes[at + 2], bytes[at + 3])
+    *bytes[at..].first_chunk().unwrap()
 }
 
 // The layout of a file.
-#[tactic(auto, using(crate::proofs::Layouts::too_short))]
+#[tactic(auto, unfolding(crate::specs::Layout::layout_of))]
 pub fn layout_of(file: &[u8]) -> Layout
     ensures { result ≡ layout_of file.now }
 {
-    if file.len() < 2 {
-        return Layout::Plain;
+    match file.first_chunk() {
+        Some(first) if from_two(*first) == STRIDED_MARK => Layout::Strided,
+        _ => Layout::Plain,
     }
-    if two_at(file, 0) == STRIDED_MARK {
-        return Layout::Strided;
-    }
-    Layout::Plain
 }
 
 // The frame count of a header, and the size of its records.
+#[tactic(auto, unfolding(crate::specs::Layout::header_in))]
 fn count_in(layout: Layout, bytes: &[u8]) -> u16
     requires { header_size layout ≤ length bytes.now }
     ensures { result ≡ (header_in layout bytes.now).count }
 {
     match layout {
-        Layout::Plain => two_at(bytes, 0),
-        Layout::Strided => two_at(bytes, 12),
+        Layout::Plain => from_two(bytes_at(bytes, 0)),
+        Layout::Strided => from_two(bytes_at(bytes, 12)),
     }
 }
 
+#[tactic(auto, unfolding(crate::specs::Layout::header_in))]
 fn size_in(layout: Layout, bytes: &[u8]) -> u16
     requires { header_size layout ≤ length bytes.now }
     ensures { result ≡ (header_in layout bytes.now).size }
 {
     match layout {
         Layout::Plain => RECORD_SIZE as u16,
-        Layout::Strided => two_at(bytes, 14),
+        Layout::Strided => from_two(bytes_at(bytes, 14)),
     }
 }
 
-// A header that was asked for, or too few bytes for one.
-#[derive(Clone, Copy)]
-pub enum HeaderRead {
-    Header(Header),
-    Short,
-}
-
-// The header at the start of some bytes.
-pub fn read_header(layout: Layout, bytes: &[u8]) -> HeaderRead
+// The header at the start of some bytes, or nothing if they are too few for one.
+#[tactic(auto, unfolding(crate::specs::Layout::header_in))]
+pub fn read_header(layout: Layout, bytes: &[u8]) -> Option<Header>
     ensures { ReadsHeader layout bytes.now result }
 {
     if bytes.len() < header_size(layout) {
-        return HeaderRead::Short;
+        return None;
     }
-    HeaderRead::Header(Header {
+    Some(Header {
         count: count_in(layout, bytes),
-        shop: two_at(bytes, 2),
-        table: four_at(bytes, 4),
-        length: four_at(bytes, 8),
+        shop: from_two(bytes_at(bytes, 2)),
+        table: from_four(bytes_at(bytes, 4)),
+        length: from_four(bytes_at(bytes, 8)),
         size: size_in(layout, bytes),
     })
 }
 
 // The record at the start of some bytes, but for its stride, which is the same in both layouts.
+#[tactic(auto, unfolding(crate::specs::HowStored::frame_in))]
 fn frame_in(bytes: &[u8]) -> FrameRecord
     requires { record_size Plain ≤ length bytes.now }
     ensures { result ≡ frame_in bytes.now }
 {
     FrameRecord {
-        offset: four_at(bytes, 0),
-        width: two_at(bytes, 4),
-        height: two_at(bytes, 6),
+        offset: from_four(bytes_at(bytes, 0)),
+        width: from_two(bytes_at(bytes, 4)),
+        height: from_two(bytes_at(bytes, 6)),
         kind: bytes[8],
         bits: bytes[9],
-        copies: two_at(bytes, 10),
-        order: four_at(bytes, 12),
+        copies: from_two(bytes_at(bytes, 10)),
+        order: from_four(bytes_at(bytes, 12)),
     }
 }
 
@@ -238,11 +212,12 @@ fn stride_in(layout: Layout, bytes: &[u8], frame: FrameRecord) -> u32
 {
     match layout {
         Layout::Plain => row_bytes(frame) as u32,
-        Layout::Strided => four_at(bytes, 16),
+        Layout::Strided => from_four(bytes_at(bytes, 16)),
     }
 }
 
 // The record at the start of some bytes.
+#[tactic(auto, unfolding(crate::specs::HowStored::frame_in, crate::specs::Layout::record_in))]
 fn record_in(layout: Layout, bytes: &[u8]) -> StridedRecord
     requires { record_size layout ≤ length bytes.now }
     ensures { result ≡ record_in layout bytes.now }
@@ -252,25 +227,15 @@ fn record_in(layout: Layout, bytes: &[u8]) -> StridedRecord
     StridedRecord { frame, stride }
 }
 
-// A record that was asked for, or too few bytes for one.
-#[derive(Clone, Copy)]
-pub enum RecordRead {
-    Record(StridedRecord),
-    Short,
-}
-
-// The record at a place of some bytes.
-pub fn read_record(layout: Layout, bytes: &[u8], at: usize) -> RecordRead
+// The record at a place of some bytes, or nothing if it does not end with them or before.
+pub fn read_record(layout: Layout, bytes: &[u8], at: usize) -> Option<StridedRecord>
     ensures { ReadsRecord layout bytes.now at result }
 {
-    let size = record_size(layout);
-    if bytes.len() < size {
-        return RecordRead::Short;
+    let record = bytes.get(at..)?;
+    if record.len() < record_size(layout) {
+        return None;
     }
-    if bytes.len() - size < at {
-        return RecordRead::Short;
-    }
-    RecordRead::Record(record_in(layout, &bytes[at..]))
+    Some(record_in(layout, record))
 }
 
 // ---- as bytes
@@ -279,58 +244,39 @@ pub fn read_record(layout: Layout, bytes: &[u8], at: usize) -> RecordRead
 pub fn header_bytes(layout: Layout, header: Header) -> [u8; STRIDED_HEADER_SIZE]
     ensures { result ≡ long_header layout header }
 {
-    let first = two_bytes(first_number(layout, header.count));
-    let shop = two_bytes(header.shop);
-    let table = four_bytes(header.table);
-    let length = four_bytes(header.length);
-    let count = two_bytes(header.count);
-    let size = two_bytes(header.size);
-    [
-        first.low, first.high, shop.low, shop.high, table.a, table.b, table.c, table.d, length.a,
-        length.b, length.c, length.d, count.low, count.high, size.low, size.high,
-    ]
+    let mut bytes = [0; STRIDED_HEADER_SIZE];
+    bytes[..2].copy_from_slice(&two_bytes(first_number(layout, header.count)));
+    bytes[2..4].copy_from_slice(&two_bytes(header.shop));
+    bytes[4..8].copy_from_slice(&four_bytes(header.table));
+    bytes[8..12].copy_from_slice(&four_bytes(header.length));
+    bytes[12..14].copy_from_slice(&two_bytes(header.count));
+    bytes[14..].copy_from_slice(&two_bytes(header.size));
+    bytes
 }
 
 // The bytes of a plain record.
 pub fn record_bytes(frame: FrameRecord) -> [u8; RECORD_SIZE]
     ensures { result ≡ record_bytes Plain (packed frame) }
 {
-    let offset = four_bytes(frame.offset);
-    let width = two_bytes(frame.width);
-    let height = two_bytes(frame.height);
-    let copies = two_bytes(frame.copies);
-    let order = four_bytes(frame.order);
-    [
-        offset.a,
-        offset.b,
-        offset.c,
-        offset.d,
-        width.low,
-        width.high,
-        height.low,
-        height.high,
-        frame.kind,
-        frame.bits,
-        copies.low,
-        copies.high,
-        order.a,
-        order.b,
-        order.c,
-        order.d,
-    ]
+    let mut bytes = [0; RECORD_SIZE];
+    bytes[..4].copy_from_slice(&four_bytes(frame.offset));
+    bytes[4..6].copy_from_slice(&two_bytes(frame.width));
+    bytes[6..8].copy_from_slice(&two_bytes(frame.height));
+    bytes[8] = frame.kind;
+    bytes[9] = frame.bits;
+    bytes[10..12].copy_from_slice(&two_bytes(frame.copies));
+    bytes[12..].copy_from_slice(&four_bytes(frame.order));
+    bytes
 }
 
 // The bytes of a strided record: those of a plain one, and the stride.
 pub fn strided_bytes(strided: StridedRecord) -> [u8; STRIDED_RECORD_SIZE]
     ensures { result ≡ record_bytes Strided strided }
 {
-    let frame = record_bytes(strided.frame);
-    let stride = four_bytes(strided.stride);
-    [
-        frame[0], frame[1], frame[2], frame[3], frame[4], frame[5], frame[6], frame[7], frame[8],
-        frame[9], frame[10], frame[11], frame[12], frame[13], frame[14], frame[15], stride.a,
-        stride.b, stride.c, stride.d,
-    ]
+    let mut bytes = [0; STRIDED_RECORD_SIZE];
+    bytes[..RECORD_SIZE].copy_from_slice(&record_bytes(strided.frame));
+    bytes[RECORD_SIZE..].copy_from_slice(&four_bytes(strided.stride));
+    bytes
 }
 
 // ---- the bytes of a frame's pixels
@@ -353,22 +299,15 @@ pub fn pixel_bytes(frame: FrameRecord) -> usize
 pub fn span_bytes(strided: StridedRecord) -> usize
     ensures { result ≡ span_bytes strided }
 {
-    let row = row_bytes(strided.frame);
     let height = strided.frame.height as usize;
-    if height == 0 {
-        return row;
-    }
-    (height - 1) * strided.stride as usize + row
+    height.saturating_sub(1) * strided.stride as usize + row_bytes(strided.frame)
 }
 
 // Is there a gap between two rows?
 fn has_gaps(strided: StridedRecord) -> bool
     ensures { result ≡ has_gaps strided }
 {
-    if strided.frame.height <= 1 {
-        return false;
-    }
-    row_bytes(strided.frame) < strided.stride as usize
+    1 < strided.frame.height && row_bytes(strided.frame) < strided.stride as usize
 }
 
 // A record of rows without gaps.
@@ -394,10 +333,32 @@ pub fn too_many_frames(count: usize) -> bool
 fn is_deep(bits: u8) -> bool
     ensures { result ≡ offered bits }
 {
-    let offer = esrgb::depth_of(bits as u32);
-    match offer {
-        Offer::Offered(_) => true,
-        Offer::NotOffered => false,
+    Depth::try_from(bits as u32).is_ok()
+}
+
+// How a frame's colours are coded. A record has the number.
+enum Kind {
+    Srgb = 1,
+    Esrgb = 2,
+    LumaChroma = 3,
+    Esycc = 4,
+    Sycc = 5,
+}
+
+impl TryFrom<u8> for Kind {
+    type Error = Refusal;
+
+    ghost try_from_gives = { IsKind };
+
+    fn try_from(number: u8) -> Result<Kind, Refusal> {
+        match number {
+            1 => Ok(Kind::Srgb),
+            2 => Ok(Kind::Esrgb),
+            3 => Ok(Kind::LumaChroma),
+            4 => Ok(Kind::Esycc),
+            5 => Ok(Kind::Sycc),
+            _ => Err(Refusal::UnknownKind),
+        }
     }
 }
 
@@ -405,13 +366,10 @@ fn is_deep(bits: u8) -> bool
 fn is_pair(kind: u8, bits: u8) -> bool
     ensures { result ≡ is_pair kind bits }
 {
-    match kind {
-        1 => bits == 8,
-        2 => is_deep(bits),
-        3 => is_deep(bits),
-        4 => is_deep(bits),
-        5 => bits == 8,
-        _ => false,
+    match Kind::try_from(kind) {
+        Ok(Kind::Srgb | Kind::Sycc) => bits == 8,
+        Ok(Kind::Esrgb | Kind::LumaChroma | Kind::Esycc) => is_deep(bits),
+        Err(_) => false,
     }
 }
 
@@ -419,40 +377,33 @@ fn is_pair(kind: u8, bits: u8) -> bool
 fn bad_side(side: u16) -> bool
     ensures { result ≡ bad_side side }
 {
-    if side == 0 {
-        return true;
-    }
-    SIDE_LIMIT < side
+    side == 0 || SIDE_LIMIT < side
 }
 
 // Checks a record's kind, bits, width and height.
-pub fn check_record(frame: FrameRecord) -> Checked
+#[tactic(auto, unfolding(crate::specs::Faults::record_fault))]
+pub fn check_record(frame: FrameRecord) -> Result<(), Refusal>
     ensures { verdict result ≡ record_fault frame }
 {
     if !is_pair(frame.kind, frame.bits) {
-        return Checked::Faulty(Refusal::UnknownKind);
+        return Err(Refusal::UnknownKind);
     }
-    if bad_side(frame.width) {
-        return Checked::Faulty(Refusal::WrongSize);
+    if bad_side(frame.width) || bad_side(frame.height) {
+        return Err(Refusal::WrongSize);
     }
-    if bad_side(frame.height) {
-        return Checked::Faulty(Refusal::WrongSize);
-    }
-    Checked::Sound
+    Ok(())
 }
 
 // Checks a record's stride, where gaps between rows are taken or not.
-pub fn check_stride(strided: StridedRecord, gaps_taken: bool) -> Checked
+#[tactic(auto, unfolding(crate::specs::Faults::stride_fault))]
+pub fn check_stride(strided: StridedRecord, gaps_taken: bool) -> Result<(), Refusal>
     ensures { verdict result ≡ stride_fault gaps_taken strided }
 {
     if (strided.stride as usize) < row_bytes(strided.frame) {
-        return Checked::Faulty(Refusal::WrongStride);
+        return Err(Refusal::WrongStride);
     }
-    if gaps_taken {
-        return Checked::Sound;
+    if !gaps_taken && has_gaps(strided) {
+        return Err(Refusal::WrongStride);
     }
-    if has_gaps(strided) {
-        return Checked::Faulty(Refusal::WrongStride);
-    }
-    Checked::Sound
+    Ok(())
 }

@@ -1,5 +1,6 @@
 -- Which fault a frame has, from the tests that find it, and what holds of a frame that is found.
 -- Assumes nothing.
+use Rattle.std.specs.Prelude.{Result, Ok}
 use Prim.Native.Nat.{ℕ, suc, ◌+◌, ◌-◌, ◌*◌, ◌≤◌, ◌<◌}
 use native.Mathlib.Omega.{arith}
 use native.Mathlib.Nat.{add-sub_cancel_left, mul-le-mul_left, mul-suc}
@@ -10,26 +11,21 @@ use lib.Dec.{ltb}
 use lib.ListN.{length, take, drop}
 use borrow.Author.Tests.{lt-ltb, le-ltb, ltb-true, ltb-false, not-false}
 use Rattle.refusal.specs.declared.Refusal.{Refusal}
-use Rattle.refusal.specs.Refusals.{number_of}
 use Rattle.refusal.specs.Answers.{Verdict, sound, faulty}
 use Rattle.refusal.proofs.Verdicts.{passed, both_sound}
 use Rattle.records.specs.declared.Layout.{Layout}
 use Rattle.records.specs.declared.StridedRecord.{StridedRecord}
-use Rattle.spool.specs.declared.Found.{Found}
-use Rattle.spool.specs.declared.Found.TheVariants.{Frame}
 use Rattle.spool.specs.declared.Contents.{Contents}
-use Rattle.spool.specs.declared.Opened.{Opened}
-use Rattle.spool.specs.declared.Opened.TheVariants.{Spool, Refused}
 use Rattle.records.specs.Layout.{header_size, record_size, layout_of, no_record, header_of, record_in}
 use Rattle.records.specs.Pixels.{span_bytes}
 use Rattle.records.specs.Faults.{record_fault, stride_fault}
 use Rattle.spool.specs.Open.{open_fault, open_said, open_says}
-use Rattle.spool.specs.Find.{FindSaid, finds, refuses_frame, find_by, record_at, pixels_outside, pixel_end, frame_fault, frame_says, find_fault, find_said, says_of, find_says, pixels_start, pixels_length, frame_pixels}
+use Rattle.spool.specs.Find.{Found, FindSaid, finds, refuses_frame, find_by, record_at, pixels_outside, pixel_end, frame_fault, frame_says, find_fault, find_said, says_of, find_says, pixels_start, pixels_length, frame_pixels}
 use Rattle.numbers.proofs.Booleans.{or_false}
-use Rattle.spool.proofs.OpenFaults.{open_file, opens-sound, refused-fault}
+use Rattle.spool.proofs.OpenFaults.{open_file, opens-sound}
 
 -- What an open spool gives, once the answer of Open is taken apart.
-pub opened : (file : List ℕ) {o : Opened} {s : Contents} → o ≡ Spool s → open_said o ≡ open_says file
+pub opened : (file : List ℕ) {o : Result Contents Refusal} {s : Contents} → o ≡ Ok s → open_said o ≡ open_says file
     → (open_fault file ≡ sound) × (s.count ≡ (header_of file).count) × (s.shop ≡ (header_of file).shop) × (s.table ≡ (header_of file).table)
 opened file e said = opens-sound (open_fault file) (header_of file) (ap open_said (sym e) ∙ said)
 
@@ -47,22 +43,17 @@ pub record_there : (file : List ℕ) (k : ℕ) {l : Layout} {t : ℕ} {s : Strid
 unfolding record_at
 record_there file k told e read = read ∙ rw (told, e)
 
-module _ (gapsTaken : Bool) (file : List ℕ) (k : ℕ) where
-  -- Open's refusal is Find's.
-  pub shut_spool : {o : Opened} {n : Refusal} → o ≡ Refused n → open_said o ≡ open_says file → refuses_frame (number_of n) no_record ≡ says_of gapsTaken file k
+-- Find's answer in an open spool: there is no such frame, or its record decides.
+module _ (gapsTaken : Bool) (file : List ℕ) (k : ℕ) (opens : open_fault file ≡ sound) where
+  pub no_such_frame : (header_of file).count ≤ k → refuses_frame 5 no_record ≡ says_of gapsTaken file k
   unfolding find_fault
-  shut_spool {o} {n} e said = rw (refused-fault (number_of n) (open_fault file) (header_of file) (ap open_said (sym e) ∙ said))
+  no_such_frame past = simp (opens, le-ltb _ _ past)
 
-  module _ (opens : open_fault file ≡ sound) where
-    pub no_such_frame : (header_of file).count ≤ k → refuses_frame 5 no_record ≡ says_of gapsTaken file k
-    unfolding find_fault
-    no_such_frame past = simp (opens, le-ltb _ _ past)
+  pub by_record : {s : StridedRecord} → k < (header_of file).count → s ≡ record_at file k → frame_says gapsTaken file s ≡ says_of gapsTaken file k
+  unfolding find_fault
+  by_record below read = simp (opens, lt-ltb _ _ below, read)
 
-    pub by_record : {s : StridedRecord} → k < (header_of file).count → s ≡ record_at file k → frame_says gapsTaken file s ≡ says_of gapsTaken file k
-    unfolding find_fault
-    by_record below read = simp (opens, lt-ltb _ _ below, read)
-
--- A record that is faulty, one whose stride is, one whose pixels are outside, and one that is sound.
+-- A record that is faulty, one whose stride is, and one that is sound.
 module _ (gapsTaken : Bool) (file : List ℕ) (s : StridedRecord) where
   pub bad_record : {n : ℕ} → faulty n ≡ record_fault s.frame → refuses_frame n no_record ≡ frame_says gapsTaken file s
   unfolding frame_fault
@@ -73,24 +64,15 @@ module _ (gapsTaken : Bool) (file : List ℕ) (s : StridedRecord) where
     unfolding frame_fault
     bad_stride e = rw (sym fine, sym e)
 
-    module _ (strides : sound ≡ stride_fault gapsTaken s) where
-      pub outside : pixels_outside file s ≡ true → refuses_frame 8 no_record ≡ frame_says gapsTaken file s
-      unfolding frame_fault
-      outside bad = rw (sym fine, sym strides, bad)
+    pub found : sound ≡ stride_fault gapsTaken s → pixels_outside file s ≡ false → finds s ≡ frame_says gapsTaken file s
+    unfolding frame_fault
+    found strides good = rw (sym fine, sym strides, good)
 
-      pub found : pixels_outside file s ≡ false → finds s ≡ frame_says gapsTaken file s
-      unfolding frame_fault
-      found good = rw (sym fine, sym strides, good)
-
--- Pixels that start inside the header, and others.
+-- Pixels that start inside the header.
 module _ (file : List ℕ) (s : StridedRecord) {l : Layout} {size : ℕ} (told : l ≡ layout_of file) (e : size ≡ header_size l) where
   pub starts_early : s.frame.offset < size → true ≡ pixels_outside file s
   unfolding pixels_outside
   starts_early early = let h : s.frame.offset < header_size (layout_of file) = rw (e, told) at early in simp (lt-ltb _ _ h)
-
-  pub by_end : {n : ℕ} → size ≤ s.frame.offset → n ≡ span_bytes s → ltb (length file) (s.frame.offset + n) ≡ pixels_outside file s
-  unfolding pixels_outside
-  by_end behind bytes = let h : header_size (layout_of file) ≤ s.frame.offset = rw (e, told) at behind in rw (bytes, le-ltb _ _ h)
 
 -- What holds of a record that is sound in its file.
 pub record Sound (gapsTaken : Bool) (file : List ℕ) (s : StridedRecord) : Type 0 where
@@ -137,7 +119,7 @@ whole gapsTaken file k s e =
     }
 
 -- What is known once the answer of Find is taken apart.
-pub found_whole : (gapsTaken : Bool) (file : List ℕ) (k : ℕ) {f : Found} {s : StridedRecord} → f ≡ Frame s → find_said f ≡ says_of gapsTaken file k → Whole gapsTaken file k s
+pub found_whole : (gapsTaken : Bool) (file : List ℕ) (k : ℕ) {f : Found} {s : StridedRecord} → f ≡ Ok s → find_said f ≡ says_of gapsTaken file k → Whole gapsTaken file k s
 found_whole gapsTaken file k {f} {s} e said = whole gapsTaken file k s (ap find_said (sym e) ∙ said)
 
 -- Where the pixels of a frame that is found lie.

@@ -2,7 +2,7 @@
 -- Assumes nothing.
 use Prim.Native.Nat.{ℕ, ◌≤◌, ◌<◌}
 use native.Mathlib.Omega.{arith}
-use mathlib.Core.Path.{◌≡◌, refl, sym, ap, ◌∙◌}
+use mathlib.Core.Path.{◌≡◌, refl, sym}
 use mathlib.Core.Bool.{not, ◌||◌}
 use mathlib.Core.List.{List}
 use lib.ListN.{length}
@@ -17,35 +17,25 @@ use Rattle.records.specs.Faults.{frame_limit}
 use Rattle.spool.specs.Open.{opens, refuses_file, header_fault, open_fault, open_by, table_end}
 use Rattle.numbers.proofs.Booleans.{or_false}
 
--- The faults of a header.
-module _ (l : Layout) (h : Header) (size : ℕ) where
-  pub wrong_length : (h.length ≡ size → ⊥) → faulty 2 ≡ header_fault l h size
+-- The faults of a header that says the file's length.
+module _ (l : Layout) (h : Header) (size : ℕ) (same : h.length ≡ size) where
+  pub wrong_record_size : (h.size ≡ record_size l → ⊥) → faulty 20 ≡ header_fault l h size
   unfolding header_fault
-  wrong_length other = simp (ne_eqb _ _ other)
+  wrong_record_size other = simp (eq-eqb _ _ same, ne_eqb _ _ other)
 
-  module _ (same : h.length ≡ size) where
-    pub wrong_record_size : (h.size ≡ record_size l → ⊥) → faulty 20 ≡ header_fault l h size
+  module _ (sized : h.size ≡ record_size l) where
+    pub too_many : frame_limit < h.count → faulty 3 ≡ header_fault l h size
     unfolding header_fault
-    wrong_record_size other = simp (eq-eqb _ _ same, ne_eqb _ _ other)
+    too_many many = simp (eq-eqb _ _ same, eq-eqb _ _ sized, lt-ltb _ _ many)
 
-    module _ (sized : h.size ≡ record_size l) where
-      pub too_many : frame_limit < h.count → faulty 3 ≡ header_fault l h size
+    module _ (few : h.count ≤ frame_limit) where
+      pub table-early : h.table < header_size l → faulty 4 ≡ header_fault l h size
       unfolding header_fault
-      too_many many = simp (eq-eqb _ _ same, eq-eqb _ _ sized, lt-ltb _ _ many)
+      table-early early = simp (eq-eqb _ _ same, eq-eqb _ _ sized, le-ltb _ _ few, lt-ltb _ _ early)
 
-      module _ (few : h.count ≤ frame_limit) where
-        pub table-early : h.table < header_size l → faulty 4 ≡ header_fault l h size
-        unfolding header_fault
-        table-early early = simp (eq-eqb _ _ same, eq-eqb _ _ sized, le-ltb _ _ few, lt-ltb _ _ early)
-
-        module _ (behind : header_size l ≤ h.table) where
-          pub table-past : size < table_end l h → faulty 4 ≡ header_fault l h size
-          unfolding header_fault
-          table-past past = simp (eq-eqb _ _ same, eq-eqb _ _ sized, le-ltb _ _ few, le-ltb _ _ behind, lt-ltb _ _ past)
-
-          pub no_fault : table_end l h ≤ size → sound ≡ header_fault l h size
-          unfolding header_fault
-          no_fault inside = simp (eq-eqb _ _ same, eq-eqb _ _ sized, le-ltb _ _ few, le-ltb _ _ behind, le-ltb _ _ inside)
+      pub no_fault : header_size l ≤ h.table → table_end l h ≤ size → sound ≡ header_fault l h size
+      unfolding header_fault
+      no_fault behind inside = simp (eq-eqb _ _ same, eq-eqb _ _ sized, le-ltb _ _ few, le-ltb _ _ behind, le-ltb _ _ inside)
 
 -- The fault of a file: its header is missing, or its header's fault.
 module _ (file : List ℕ) {l : Layout} (told : l ≡ layout_of file) where
@@ -56,9 +46,6 @@ module _ (file : List ℕ) {l : Layout} (told : l ≡ layout_of file) where
   pub by_header : {h : Header} {v : Verdict} → header_size l ≤ length file → h ≡ header_in l file → v ≡ header_fault l h (length file) → open_fault file ≡ v
   unfolding open_fault
   by_header long read e = rw (sym told, le-ltb _ _ long, sym read, sym e)
-
-  pub header_there : {h : Header} → h ≡ header_in l file → h ≡ header_of file
-  header_there read = read ∙ ap (λ (x : Layout). header_in x file) told
 
 -- What holds of a spool that opens.
 pub record OpenFile (file : List ℕ) : Type 0 where

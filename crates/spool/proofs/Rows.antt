@@ -8,17 +8,14 @@ use mathlib.Core.Bool.{Bool, true, false}
 use mathlib.Core.List.{List}
 use lib.Dec.{ltb}
 use lib.ListN.{length, take, drop}
-use borrow.Author.Tests.{lt-ltb, le-ltb, ltb-true}
+use borrow.Author.Tests.{lt-ltb, ltb-true}
 use Rattle.records.specs.declared.StridedRecord.{StridedRecord}
 use Rattle.records.specs.Pixels.{row_bytes, span_bytes}
 use Rattle.spool.specs.declared.Extent.{Extent}
 use Rattle.spool.specs.Find.{FindSaid, finds, find_says, pixel_end}
-use Rattle.spool.specs.Rows.{no_extent, row_extent, row_of_said, extent_of, frame_row}
+use Rattle.spool.specs.Rows.{row_extent, row_of_said, extent_of, frame_row}
 
 module _ (s : StridedRecord) (j : ℕ) where
-  pub no_row : s.frame.height ≤ j → no_extent ≡ row_extent s j
-  no_row past = rw (le-ltb _ _ past)
-
   pub one-row : {n : ℕ} → j < s.frame.height → n ≡ row_bytes s.frame → record { start = s.frame.offset + j * s.stride; length = n } ≡ row_extent s j
   one-row below e = rw (lt-ltb _ _ below, e)
 

@@ -1,15 +1,14 @@
 -- Find a frame (rule 7.6).
 -- Assumes nothing.
-use Rattle.std.specs.Prelude.{ℕ, ◌+◌, ◌*◌, Bool, true, cond, not, ◌||◌, List, ◌≡◌, length, take, drop, ltb}
+use Rattle.std.specs.Prelude.{ℕ, ◌+◌, ◌*◌, Bool, true, cond, not, ◌||◌, List, ◌≡◌, length, take, drop, ltb, Result, Ok, Err}
 use Rattle.std.specs.Borrow.{Bor}
+use Rattle.refusal.specs.declared.Refusal.{Refusal}
 use Rattle.refusal.specs.Refusals.{number_of}
 use Rattle.refusal.specs.Answers.{Verdict, sound, faulty, or_else}
 use Rattle.records.specs.declared.StridedRecord.{StridedRecord}
 use Rattle.records.specs.Layout.{header_size, record_size, layout_of, no_record, header_of, record_in}
 use Rattle.records.specs.Pixels.{span_bytes}
 use Rattle.records.specs.Faults.{record_fault, stride_fault}
-use Rattle.spool.specs.declared.Found.{Found}
-use Rattle.spool.specs.declared.Found.TheVariants.{Frame, Refused}
 use Rattle.spool.specs.Open.{open_fault}
 
 -- The record of frame k; the first has number 0.
@@ -34,14 +33,18 @@ unfoldable pub find_fault : Bool → List ℕ → ℕ → Verdict
 find_fault gapsTaken file k =
     or_else (open_fault file) (cond (not (ltb k (header_of file).count)) (faulty 5) (frame_fault gapsTaken file (record_at file k)))
 
+-- What Find gives.
+abbrev pub Found : Type 0
+Found = Result StridedRecord Refusal
+
 -- The answer: the record; or the refusal, with a record of zeros.
 pub data FindSaid : Type 0 where
   finds : StridedRecord → FindSaid
   refuses_frame : ℕ → StridedRecord → FindSaid
 
 abbrev pub find_said : Found → FindSaid
-find_said (Frame s) = finds s
-find_said (Refused r) = refuses_frame (number_of r) no_record
+find_said (Ok s) = finds s
+find_said (Err r) = refuses_frame (number_of r) no_record
 
 abbrev pub find_by : Verdict → StridedRecord → FindSaid
 find_by sound s = finds s

@@ -1,12 +1,12 @@
 -- Open a spool (rule 7.5).
 -- Assumes nothing.
-use Rattle.std.specs.Prelude.{ℕ, ◌+◌, ◌*◌, cond, not, ◌||◌, List, length, eqb, ltb}
+use Rattle.std.specs.Prelude.{ℕ, ◌+◌, ◌*◌, cond, not, ◌||◌, List, length, eqb, ltb, Result, Ok, Err}
+use Rattle.refusal.specs.declared.Refusal.{Refusal}
 use Rattle.refusal.specs.Refusals.{number_of}
 use Rattle.refusal.specs.Answers.{Verdict, sound, faulty}
 use Rattle.records.specs.declared.Header.{Header}
 use Rattle.records.specs.declared.Layout.{Layout}
-use Rattle.spool.specs.declared.Opened.{Opened}
-use Rattle.spool.specs.declared.Opened.TheVariants.{Spool, Refused}
+use Rattle.spool.specs.declared.Contents.{Contents}
 use Rattle.records.specs.Layout.{header_size, record_size, layout_of, header_of}
 use Rattle.records.specs.Faults.{frame_limit}
 
@@ -15,9 +15,9 @@ pub data OpenSaid : Type 0 where
   opens : ℕ → ℕ → ℕ → OpenSaid
   refuses_file : ℕ → OpenSaid
 
-abbrev pub open_said : Opened → OpenSaid
-open_said (Spool s) = opens s.count s.shop s.table
-open_said (Refused r) = refuses_file (number_of r)
+abbrev pub open_said : Result Contents Refusal → OpenSaid
+open_said (Ok s) = opens s.count s.shop s.table
+open_said (Err r) = refuses_file (number_of r)
 
 -- Where the record table of a header ends.
 abbrev pub table_end : Layout → Header → ℕ

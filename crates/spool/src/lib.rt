@@ -10,10 +10,10 @@ ghost use Rattle.spool.specs.Find.{pixels_outside, frame_says, find_said, says_o
 ghost use Rattle.spool.specs.Rows.{row_extent, IsRow};
 
 use records::{
-    Header, HeaderRead, Layout, RecordRead, StridedRecord, check_record, check_stride, header_size,
-    layout_of, read_header, read_record, record_size, row_bytes, span_bytes, too_many_frames,
+    Header, Layout, StridedRecord, check_record, check_stride, header_size, layout_of, read_header,
+    read_record, record_size, row_bytes, span_bytes, too_many_frames,
 };
-use refusal::{Checked, Refusal};
+use refusal::Refusal;
 
 // What an open spool holds.
 #[derive(Clone, Copy)]
@@ -23,110 +23,83 @@ pub struct Contents {
     pub table: u32,
 }
 
-#[derive(Clone, Copy)]
-pub enum Opened {
-    Spool(Contents),
-    Refused(Refusal),
-}
-
 // Checks the header of a file with so many bytes.
-fn check_header(layout: Layout, header: Header, size: usize) -> Checked
+#[tactic(auto, unfolding(crate::specs::Open::header_fault))]
+fn check_header(layout: Layout, header: Header, size: usize) -> Result<(), Refusal>
     ensures { verdict result ≡ header_fault layout header size }
 {
     if header.length as usize != size {
-        return Checked::Faulty(Refusal::WrongFileLength);
+        return Err(Refusal::WrongFileLength);
     }
     let record_size = record_size(layout);
     if header.size as usize != record_size {
-        return Checked::Faulty(Refusal::WrongRecordSize);
+        return Err(Refusal::WrongRecordSize);
     }
     let count = header.count as usize;
     if too_many_frames(count) {
-        return Checked::Faulty(Refusal::TooManyFrames);
+        return Err(Refusal::TooManyFrames);
     }
     let table = header.table as usize;
-    if table < header_size(layout) {
-        return Checked::Faulty(Refusal::TableOutside);
+    if table < header_size(layout) || size < table + record_size * count {
+        return Err(Refusal::TableOutside);
     }
-    if size < table + record_size * count {
-        return Checked::Faulty(Refusal::TableOutside);
-    }
-    Checked::Sound
+    Ok(())
 }
 
 // Opens a spool.
-pub fn open(file: &[u8]) -> Opened
+#[tactic(auto, unfolding(crate::specs::Open::open_fault))]
+pub fn open(file: &[u8]) -> Result<Contents, Refusal>
     ensures { open_said result ≡ open_says file.now }
 {
     let layout = layout_of(file);
-    match read_header(layout, file) {
-        HeaderRead::Short => Opened::Refused(Refusal::TooShort),
-        HeaderRead::Header(header) => match check_header(layout, header, file.len()) {
-            Checked::Faulty(refusal) => Opened::Refused(refusal),
-            Checked::Sound => Opened::Spool(Contents {
-                count: header.count,
-                shop: header.shop,
-                table: header.table,
-            }),
-        },
-    }
+    let header = read_header(layout, file).ok_or(Refusal::TooShort)?;
+    check_header(layout, header, file.len())?;
+    Ok(Contents {
+        count: header.count,
+        shop: header.shop,
+        table: header.table,
+    })
 }
 
-// What finding a frame gives.
-#[derive(Clone, Copy)]
-pub enum Found {
-    Frame(StridedRecord),
-    Refused(Refusal),
-}
+// What finding a frame gives: its record, or why there is none.
+pub type Found = Result<StridedRecord, Refusal>;
 
 // Do a record's pixels reach into the header or past the file?
+#[tactic(auto, unfolding(crate::specs::Find::pixels_outside))]
 fn pixels_outside(file: &[u8], strided: StridedRecord) -> bool
     ensures { result ≡ pixels_outside file.now strided }
 {
     let start = strided.frame.offset as usize;
-    if start < header_size(layout_of(file)) {
-        return true;
-    }
-    file.len() < start + span_bytes(strided)
+    start < header_size(layout_of(file)) || file.len() < start + span_bytes(strided)
 }
 
 // The frame of a record, if the record and its pixels are sound, where gaps between rows are taken or not.
+#[tactic(auto, unfolding(crate::specs::Find::frame_fault))]
 fn frame_of(file: &[u8], strided: StridedRecord, gaps_taken: bool) -> Found
     ensures { find_said result ≡ frame_says gaps_taken file.now strided }
 {
-    match check_record(strided.frame) {
-        Checked::Faulty(refusal) => Found::Refused(refusal),
-        Checked::Sound => match check_stride(strided, gaps_taken) {
-            Checked::Faulty(refusal) => Found::Refused(refusal),
-            Checked::Sound => {
-                if pixels_outside(file, strided) {
-                    return Found::Refused(Refusal::PixelsOutside);
-                }
-                Found::Frame(strided)
-            }
-        },
+    check_record(strided.frame)?;
+    check_stride(strided, gaps_taken)?;
+    if pixels_outside(file, strided) {
+        return Err(Refusal::PixelsOutside);
     }
+    Ok(strided)
 }
 
 // Finds a frame, where gaps between its rows are taken or not: its record, or why there is none. The
 // table of an open spool is inside the file, so that no record below the count is short.
+#[tactic(auto, using(crate::proofs::FindFaults::record_inside), unfolding(crate::specs::Find::find_fault, crate::specs::Find::record_at))]
 pub fn frame_at(file: &[u8], number: usize, gaps_taken: bool) -> Found
     ensures { find_said result ≡ says_of gaps_taken file.now number }
 {
-    match open(file) {
-        Opened::Refused(refusal) => Found::Refused(refusal),
-        Opened::Spool(contents) => {
-            if contents.count as usize <= number {
-                return Found::Refused(Refusal::NoSuchFrame);
-            }
-            let layout = layout_of(file);
-            let at = contents.table as usize + record_size(layout) * number;
-            match read_record(layout, file, at) {
-                RecordRead::Record(strided) => frame_of(file, strided, gaps_taken),
-                RecordRead::Short => Found::Refused(Refusal::TableOutside),
-            }
-        }
+    let contents = open(file)?;
+    if contents.count as usize <= number {
+        return Err(Refusal::NoSuchFrame);
     }
+    let layout = layout_of(file);
+    let at = contents.table as usize + record_size(layout) * number;
+    let strided = read_record(layout, file, at).ok_or(Refusal::TableOutside)?;
+    frame_of(file, strided, gaps_taken)
 }
 
 // Finds a frame.
@@ -141,14 +114,12 @@ pub fn find(file: &[u8], number: usize) -> Found
 pub fn pixels(file: &[u8], number: usize) -> &[u8]
     ensures { IsPixels file.entry number result }
 {
-    match find(file, number) {
-        Found::Frame(strided) => {
-            let start = strided.frame.offset as usize;
-            let end = start + span_bytes(strided);
-            &file[start..end]
-        }
-        Found::Refused(_) => &file[0..0],
-    }
+    let Ok(strided) = find(file, number) else {
+        return &file[0..0];
+    };
+    let start = strided.frame.offset as usize;
+    let end = start + span_bytes(strided);
+    &file[start..end]
 }
 
 // A part of a file: where it starts, and how many bytes it has.
@@ -179,13 +150,11 @@ pub fn row_extent(strided: StridedRecord, row: usize) -> Extent
 pub fn row(file: &[u8], number: usize, row: usize) -> &[u8]
     ensures { IsRow file.entry number row result }
 {
-    match find(file, number) {
-        Found::Frame(strided) => {
-            let extent = row_extent(strided, row);
-            let start = extent.start;
-            let end = start + extent.length;
-            &file[start..end]
-        }
-        Found::Refused(_) => &file[0..0],
-    }
+    let Ok(strided) = find(file, number) else {
+        return &file[0..0];
+    };
+    let extent = row_extent(strided, row);
+    let start = extent.start;
+    let end = start + extent.length;
+    &file[start..end]
 }

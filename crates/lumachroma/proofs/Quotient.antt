@@ -10,7 +10,7 @@ use Rattle.samples.specs.declared.Pixel.{Pixel}
 use Rattle.esrgb.specs.declared.Depth.{Depth}
 use Rattle.esrgb.specs.Depths.{bits, greatest, middle}
 use Rattle.esrgb.proofs.Scale.{scale}
-use Rattle.lumachroma.specs.LumaChroma.{chroma}
+use Rattle.lumachroma.specs.LumaChroma.{chroma, blue_chroma, red_chroma}
 use Rattle.lumachroma.specs.HowDivided.{span, bias, estimate_bias, cb_of_red, cb_of_green, cr_of_green, cr_of_blue, weighted, InRange, biased_dividend, Estimates, rest_of, Biased}
 
 -- An estimate, and what it leaves of the dividend over den, make the quotient. Of the dividend only the last 16 bits are handed on.
@@ -93,16 +93,27 @@ module _ {up down den : ℕ} (s : InRange up down den) where
   pub not_above_luma : up ≤ down + 500 → Biased up down den (biased_dividend up down den / den)
   not_above_luma h = ⊎_elim (λ e. at-luma (omega arith) h) (λ l. below (omega arith)) (eq-zero-or-pos (down - up))
 
--- A biased quotient is the definition's chroma once the middle code is in the bias's place. A weight on both sides changes nothing.
-pub is-chroma :
-    (d : Depth) (up down den q up' down' : ℕ) → Biased up down den q → up - down ≡ up' - down' → down - up ≡ down' - up'
-    → q - (bias - middle (bits d)) ≡ chroma (bits d) up' down' den
+-- A biased quotient is the definition's chroma once the middle code is in the bias's place.
+pub is-chroma : (d : Depth) (up down den q : ℕ) → Biased up down den q → q - (bias - middle (bits d)) ≡ chroma (bits d) up down den
 unfolding chroma
-is-chroma d up down den q up' down' b e f =
+is-chroma d up down den q b =
     let s = scale d in
-    let rises : nearest_down (up - down) den ≡ nearest_down (up' - down') den = ap (λ (x : ℕ). nearest_down x den) e in
-    let falls : nearest_down (down - up) den ≡ nearest_down (down' - up') den = ap (λ (x : ℕ). nearest_down x den) f in
-    omega (arith, b.rounded, rises, falls)
+    omega (arith, b.rounded)
+
+-- A weight on both sides of a difference changes nothing.
+same-chroma :
+    (n den up down up' down' : ℕ) → up - down ≡ up' - down' → down - up ≡ down' - up' → chroma n up down den ≡ chroma n up' down' den
+unfolding chroma
+same-chroma n den up down up' down' e f = λ i. middle n + nearest_down (e i) den - nearest_down (f i) den
+
+module _ (n : ℕ) (p : Pixel) where
+  pub is-blue_chroma : chroma n (1000 * p.third) (weighted p) 1772 ≡ blue_chroma n p.first p.second p.third
+  unfolding blue_chroma
+  is-blue_chroma = same-chroma n 1772 _ _ _ _ (omega arith) (omega arith)
+
+  pub is-red_chroma : chroma n (1000 * p.first) (weighted p) 1402 ≡ red_chroma n p.first p.second p.third
+  unfolding red_chroma
+  is-red_chroma = same-chroma n 1402 _ _ _ _ (omega arith) (omega arith)
 
 -- Clipping by the middle code is clipping by the depth.
 pub clipped-at : (d : Depth) (up down den : ℕ) → clipped_to (2 * middle (bits d) - 1) up down den ≡ clipped_to (greatest (bits d)) up down den

@@ -3,13 +3,12 @@
 // nothing of a caller.
 #![tactic(auto)]
 
-ghost use Rattle.std.specs.Prelude.{◌≡◌, eqb, ◌+◌, ◌-◌, ◌*◌, ◌/◌, ◌%◌, ◌^◌, ◌≤◌, ◌<◌, min};
+ghost use Rattle.std.specs.Prelude.{◌≡◌, ◌+◌, ◌-◌, ◌*◌, ◌/◌, ◌%◌, ◌^◌, ◌≤◌, ◌<◌, min};
 ghost use Rattle.esrgb.specs.Depths.{bits, middle};
-ghost use Rattle.lumachroma.specs.LumaChroma.{luma, blue_chroma, red_chroma, to_luma_chroma, to_rgb};
+ghost use Rattle.lumachroma.specs.LumaChroma.{luma, chroma, to_luma_chroma, to_rgb};
 ghost use Rattle.lumachroma.specs.HowDivided.{span, bias, weighted, rest_of, biased_dividend, InRange, Estimates, Biased, Middle, lift, green_of_cb, green_of_cr, starts_at};
 
 use esrgb::{Depth, step_of};
-use numbers::excess;
 use samples::Pixel;
 
 // ---- luma and chroma
@@ -58,6 +57,7 @@ fn weighted_sum(p: Pixel) -> u16
 
 // What an estimate of dividend / den leaves of the dividend. That is less than SPAN, and so the last 16 bits of
 // the dividend tell it.
+#[tactic(auto, unfolding(crate::specs::HowDivided::rest_of))]
 fn rest(dividend: u32, den: u32, estimate: u16) -> u16
     requires { (dividend ≤ 2 ^ 31) × (den ≤ 2000) }
     ensures { result ≡ rest_of dividend den estimate }
@@ -75,76 +75,84 @@ fn luma_of(p: Pixel) -> u16
     estimate + rest((weighted_sum(p) as u32) + 500, 1000, estimate) / 1000
 }
 
-// (1000 channel - weighted sum) / den to the nearest, ties towards zero, plus the bias. Where it is above 0, one
-// less is divided, so that a tie goes down. The sign matters at a tie alone, and there the channel is so far
-// from luma that luma may be rounded to tell it.
-fn biased_quotient(p: Pixel, channel: u16, den: u32, estimate: u16) -> u32
-    requires { InRange (1000 * channel) (weighted p) den × Estimates (biased_dividend (1000 * channel) (weighted p) den) den estimate }
-    ensures { Biased (1000 * channel) (weighted p) den result }
-{
-    let tie = if luma_of(p) < channel { 1 } else { 0 };
-    let dividend = den * BIAS + den / 2 + 1000 * (channel as u32) - (weighted_sum(p) as u32) - tie;
-    (estimate as u32) + ((rest(dividend, den, estimate) / (den as u16)) as u32)
-}
-
 // The bias less the middle code, by two questions and not by a `match` of three arms: that would stay a jump in
 // the loop over pixels, and the compiler would take one pixel at a time.
-fn is_ten(depth: Depth) -> bool
-    ensures { result ≡ eqb (bits depth) 10 }
-{
-    match depth {
-        Depth::Ten => true,
-        Depth::Twelve => false,
-        Depth::Sixteen => false,
-    }
-}
-
-fn is_sixteen(depth: Depth) -> bool
-    ensures { result ≡ eqb (bits depth) 16 }
-{
-    match depth {
-        Depth::Ten => false,
-        Depth::Twelve => false,
-        Depth::Sixteen => true,
-    }
-}
-
 fn above_middle(depth: Depth) -> u16
     ensures { result ≡ bias - middle (bits depth) }
 {
-    if is_ten(depth) {
-        return (BIAS - 512) as u16;
+    if depth == Depth::Ten {
+        (BIAS - 512) as u16
+    } else if depth == Depth::Sixteen {
+        0
+    } else {
+        (BIAS - 2048) as u16
     }
-    if is_sixteen(depth) {
-        return 0;
+}
+
+// What a chroma is worked out from: how far a channel of a pixel is from luma, what that is divided by, and an
+// estimate of the quotient.
+#[derive(Clone, Copy)]
+struct Difference {
+    pixel: Pixel,
+    channel: u16,
+    den: u32,
+    estimate: u16,
+    ghost in_range: { InRange (1000 * channel) (weighted pixel) den },
+    ghost near: { Estimates (biased_dividend (1000 * channel) (weighted pixel) den) den estimate },
+}
+
+impl Difference {
+    // Of blue chroma (rule 2.3).
+    fn of_blue(p: Pixel) -> Self
+        ensures { (result.pixel ≡ p) × (result.channel ≡ p.third) × (result.den ≡ 1772) }
+    {
+        let others = share(p.first, CB_OF_RED) + share(p.second, CB_OF_GREEN);
+        Difference {
+            pixel: p,
+            channel: p.third,
+            den: 1772,
+            estimate: ESTIMATE_BIAS + p.third / 2 - others,
+        }
     }
-    (BIAS - 2048) as u16
-}
 
-// A quotient with the middle code of the depth in place of the bias, and 0 where that would be less.
-fn unbiased(depth: Depth, quotient: u32) -> u16
-    requires { quotient < span }
-    ensures { result ≡ quotient - (bias - middle (bits depth)) }
-{
-    excess(quotient as u16, above_middle(depth))
-}
+    // Of red chroma.
+    fn of_red(p: Pixel) -> Self
+        ensures { (result.pixel ≡ p) × (result.channel ≡ p.first) × (result.den ≡ 1402) }
+    {
+        let others = share(p.second, CR_OF_GREEN) + share(p.third, CR_OF_BLUE);
+        Difference {
+            pixel: p,
+            channel: p.first,
+            den: 1402,
+            estimate: ESTIMATE_BIAS + p.first / 2 - others,
+        }
+    }
 
-// Stored blue chroma (rules 2.3 and 2.4).
-fn blue_chroma_of(depth: Depth, p: Pixel) -> u16
-    ensures { result ≡ blue_chroma (bits depth) p.first p.second p.third }
-{
-    let others = share(p.first, CB_OF_RED) + share(p.second, CB_OF_GREEN);
-    let estimate = ESTIMATE_BIAS + p.third / 2 - others;
-    unbiased(depth, biased_quotient(p, p.third, 1772, estimate))
-}
+    // (1000 channel - weighted sum) / den to the nearest, ties towards zero, plus the bias. Where it is above 0,
+    // one less is divided, so that a tie goes down. The sign matters at a tie alone, and there the channel is so
+    // far from luma that luma may be rounded to tell it.
+    fn biased_quotient(self) -> u32
+        ensures { Biased (1000 * self.channel) (weighted self.pixel) self.den result }
+    {
+        let tie = if luma_of(self.pixel) < self.channel {
+            1
+        } else {
+            0
+        };
+        let dividend = self.den * BIAS + self.den / 2 + 1000 * (self.channel as u32)
+            - (weighted_sum(self.pixel) as u32)
+            - tie;
+        (self.estimate as u32)
+            + ((rest(dividend, self.den, self.estimate) / (self.den as u16)) as u32)
+    }
 
-// Stored red chroma.
-fn red_chroma_of(depth: Depth, p: Pixel) -> u16
-    ensures { result ≡ red_chroma (bits depth) p.first p.second p.third }
-{
-    let others = share(p.second, CR_OF_GREEN) + share(p.third, CR_OF_BLUE);
-    let estimate = ESTIMATE_BIAS + p.first / 2 - others;
-    unbiased(depth, biased_quotient(p, p.first, 1402, estimate))
+    // The stored chroma (rule 2.4): the quotient with the middle code of the depth in place of the bias, and 0
+    // where that would be less.
+    fn stored(self, depth: Depth) -> u16
+        ensures { result ≡ chroma (bits depth) (1000 * self.channel) (weighted self.pixel) self.den }
+    {
+        (self.biased_quotient() as u16).saturating_sub(above_middle(depth))
+    }
 }
 
 // A pixel of codes, red, green and blue, as luma, blue chroma and red chroma. Each sample is a function of the
@@ -154,8 +162,8 @@ pub fn to_luma_chroma(depth: Depth, p: Pixel) -> Pixel
 {
     Pixel {
         first: luma_of(p),
-        second: blue_chroma_of(depth, p),
-        third: red_chroma_of(depth, p),
+        second: Difference::of_blue(p).stored(depth),
+        third: Difference::of_red(p).stored(depth),
     }
 }
 
@@ -249,14 +257,7 @@ fn clip(middle: u32, sum: u32) -> u16
     requires { Middle middle }
     ensures { result ≡ min (2 * middle - 1) (sum - lift) }
 {
-    let greatest = 2 * middle - 1;
-    if sum < LIFT {
-        0
-    } else if sum - LIFT < greatest {
-        (sum - LIFT) as u16
-    } else {
-        greatest as u16
-    }
+    sum.saturating_sub(LIFT).min(2 * middle - 1) as u16
 }
 
 // The way back. What comes back is a code of the depth, whatever the three numbers are. Nearly every

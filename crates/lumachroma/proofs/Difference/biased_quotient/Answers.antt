@@ -1,4 +1,4 @@
--- `lumachroma::biased_quotient` meets its contract: rounded luma tells which half rounds, and the estimate leaves the rest of the
+-- `lumachroma::Difference::biased_quotient` meets its contract: rounded luma tells which half rounds, and the estimate leaves the rest of the
 -- quotient.
 use mathlib.Core.Path.{◌≡◌}
 use Prim.Native.Nat.{ℕ, ◌+◌, ◌-◌, ◌*◌, ◌≤◌, ◌<◌}
@@ -7,8 +7,8 @@ use Rattle.numbers.specs.Rounding.{nearest}
 use Rattle.lumachroma.specs.LumaChroma.{luma}
 use Rattle.lumachroma.specs.HowDivided.{weighted, biased_dividend}
 use Rattle.lumachroma.proofs.Quotient.{divided, above-luma, not_above_luma}
-use Rattle.lumachroma.proofs.biased_quotient.Goals as goal
-use Rattle.lumachroma.proofs.biased_quotient.Goals.{then-luma_of-channel, else-luma_of-channel}
+use Rattle.lumachroma.proofs.Difference.biased_quotient.Goals as goal
+use Rattle.lumachroma.proofs.Difference.biased_quotient.Goals.{then-luma_of-self, else-luma_of-self}
 
 -- What rounded luma tells of the weighted sum: it is within a half of it over 1000.
 module _ (r g b channel : ℕ) where
@@ -22,16 +22,17 @@ module _ (r g b channel : ℕ) where
 
 pub returns : goal.returns
 returns c =
-    let p = c.args.p in
-    let den : ℕ = c.args.den in
-    let e : ℕ = c.args.estimate in
-    let whole : ℕ = biased_dividend (1000 * c.args.channel) (weighted p) den in
+    let d = c.args.self in
+    let p = d.pixel in
+    let den : ℕ = d.den in
+    let e : ℕ = d.estimate in
+    let whole : ℕ = biased_dividend (1000 * d.channel) (weighted p) den in
     let y : c.luma_of.result ≡ luma p.first p.second p.third = c.luma_of.ensures in
-    elim c.if-luma_of-channel.branch [
-      | then-luma_of-channel w ↦
+    elim c.if-luma_of-self.branch [
+      | then-luma_of-self w ↦
           rw (divided (whole - 1) den e _ c.rest.ensures (omega arith) (omega arith) (omega arith) (omega arith) (omega arith))
-          (above-luma c.requires.0 (above p.first p.second p.third c.args.channel (omega arith)))
-      | else-luma_of-channel w ↦
+          (above-luma d.in_range (above p.first p.second p.third d.channel (omega arith)))
+      | else-luma_of-self w ↦
           rw (divided whole den e _ c.rest.ensures (omega arith) (omega arith) (omega arith) (omega arith) (omega arith))
-          (not_above_luma c.requires.0 (not_above p.first p.second p.third c.args.channel (omega arith)))
+          (not_above_luma d.in_range (not_above p.first p.second p.third d.channel (omega arith)))
     ]

@@ -1,0 +1,13 @@
+-- `lumachroma::Difference::stored` meets its contract: the middle code in the bias's place gives the definition's chroma.
+use mathlib.Core.Path.{◌∙◌}
+use Prim.Native.Nat.{◌-◌, ◌*◌}
+use Rattle.lumachroma.specs.HowDivided.{weighted}
+use Rattle.lumachroma.proofs.Quotient.{is-chroma}
+use Rattle.lumachroma.proofs.Difference.stored.Goals as goal
+
+pub returns : goal.returns
+returns c =
+    let d = c.args.self in
+    c.saturating_sub.ensures
+    ∙ (λ i. c.biased_quotient.result - c.above_middle.ensures i)
+    ∙ is-chroma c.args.depth (1000 * d.channel) (weighted d.pixel) d.den _ c.biased_quotient.ensures

@@ -160,9 +160,12 @@ sums_are px origin low origin' low' e f-is o l = e ∙ (λ i. sums_by (f-is i) (
 
 -- ---- to e-sRGB
 pub back_sums_are :
-    (v : Ycc) (y cb cr : ℕ) {r r' : Rows} {s : Sums} → s ≡ back_sums_by r y cb cr → r ≡ r' → y ≡ v.y → cb ≡ v.cb → cr ≡ v.cr
-    → s ≡ back_sums_by r' v.y v.cb v.cr
-back_sums_are v y cb cr e r-is hy hb hr = e ∙ (λ i. back_sums_by (r-is i) (hy i) (hb i) (hr i))
+    (v : Ycc) (y cb cr : ℕ) {r r' : Rows} {s : Sums}
+    → s.first ≡ (back_sums_by r y cb cr).first → s.second ≡ (back_sums_by r y cb cr).second → s.third ≡ (back_sums_by r y cb cr).third
+    → r ≡ r' → y ≡ v.y → cb ≡ v.cb → cr ≡ v.cr → s ≡ back_sums_by r' v.y v.cb v.cr
+back_sums_are v y cb cr {r} {r'} {s} first second third r-is hy hb hr =
+    let e : s ≡ back_sums_by r y cb cr = λ i. record { first = first i; second = second i; third = third i } in
+    e ∙ (λ i. back_sums_by (r-is i) (hy i) (hb i) (hr i))
 
 pub is-channels :
     {n p half : ℕ} {v : Ycc} → Within n p half v

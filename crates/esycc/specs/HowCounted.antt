@@ -19,10 +19,6 @@ pub record Ratio (a b p q : ℕ) : Type 0 where
   pub first-is : a ≡ times * p
   pub second_is : b ≡ times * q
 
--- r is x − low if it is a number of 16 bits, as it is not where x is less than low.
-abbrev pub Excess : ℕ → ℕ → ℕ → Type 0
-Excess x low r = r ≤ 65535 → x ≡ r + low
-
 -- Three sums that stand too high by low, as the codes of a pixel.
 abbrev pub codes_at : ℕ → ℕ → Sums → Pixel
 codes_at most low s = pixel (min most (s.first - low)) (min most (s.second - low)) (min most (s.third - low))
@@ -157,10 +153,10 @@ share_by weight p q = weight * p * back_unit / q
 
 -- The rows of B9. Chroma is counted from grey, which the start holds.
 abbrev pub adding_row : ℕ → ℕ → ℕ → Row
-adding_row cb cr grey = record { start = back_start - (cb * grey + cr * grey); cb = cb; cr = cr }
+adding_row cb cr grey = record { start = back_start - (cb * grey + cr * grey); shares = record { cb = cb; cr = cr } }
 
 abbrev pub taking_row : ℕ → ℕ → ℕ → Row
-taking_row cb cr grey = record { start = back_start + (cb * grey + cr * grey); cb = cb; cr = cr }
+taking_row cb cr grey = record { start = back_start + (cb * grey + cr * grey); shares = record { cb = cb; cr = cr } }
 
 abbrev pub rows_by : ℕ → ℕ → ℕ → Rows
 rows_by p q grey =
@@ -181,9 +177,9 @@ less_chroma begin luma shares = (begin + luma - shares) / back_unit
 abbrev pub back_sums_by : Rows → ℕ → ℕ → ℕ → Sums
 back_sums_by r y cb cr =
     record {
-      first = with_chroma r.red.start (r.luma * y) (r.red.cb * cb + r.red.cr * cr);
-      second = less_chroma r.green.start (r.luma * y) (r.green.cb * cb + r.green.cr * cr);
-      third = with_chroma r.blue.start (r.luma * y) (r.blue.cb * cb + r.blue.cr * cr);
+      first = with_chroma r.red.start (r.luma * y) (r.red.shares.cb * cb + r.red.shares.cr * cr);
+      second = less_chroma r.green.start (r.luma * y) (r.green.shares.cb * cb + r.green.shares.cr * cr);
+      third = with_chroma r.blue.start (r.luma * y) (r.blue.shares.cb * cb + r.blue.shares.cr * cr);
     }
 
 -- What a luma and the chromas can be, and the numbers of a row.
@@ -205,8 +201,8 @@ most_luma_share = 9000000000000
 
 -- Rows whose sums have room.
 pub record FewRow (r : Row) (most : ℕ) : Type 0 where
-  pub cb : r.cb ≤ most
-  pub cr : r.cr ≤ most
+  pub cb : r.shares.cb ≤ most
+  pub cr : r.shares.cr ≤ most
 
 pub record FewRows (r : Rows) : Type 0 where
   pub luma : r.luma ≤ most_luma_share

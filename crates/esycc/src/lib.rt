@@ -7,7 +7,7 @@ ghost use Rattle.std.specs.Prelude.{◌≡◌, ◌+◌, ◌-◌, ◌*◌, ◌/�
 ghost use Rattle.esrgb.specs.Depths.{bits, greatest, middle, offset, step};
 ghost use Rattle.esycc.specs.Esycc.{weighted, to_esycc, from_esycc};
 ghost use Rattle.esycc.specs.Sycc.{to_sycc, from_sycc};
-ghost use Rattle.esycc.specs.HowCounted.{Excess, codes_at, lift, most_sum, most_difference, most_low, most_middle, most_divisor, most_luma_factor, most_chroma_factor, top, bottom, Terms, factors_by, luma_sum, chroma_sum, Few, sums_by, back_lift, back_start, back_top, back_half, most_top, most_weight, BackTerms, share_by, adding_row, taking_row, rows_by, with_chroma, less_chroma, back_sums_by, most_luma, most_chroma, most_share, most_taken, most_luma_share, FewRows};
+ghost use Rattle.esycc.specs.HowCounted.{codes_at, lift, most_sum, most_difference, most_low, most_middle, most_divisor, most_luma_factor, most_chroma_factor, top, bottom, Terms, factors_by, luma_sum, chroma_sum, Few, sums_by, back_lift, back_start, back_top, back_half, most_top, most_weight, BackTerms, share_by, adding_row, taking_row, rows_by, with_chroma, less_chroma, back_unit, back_sums_by, most_luma, most_chroma, most_share, most_taken, most_luma_share, FewRows};
 
 use esrgb::{Depth, greatest_of, step_of};
 use samples::Pixel;
@@ -22,47 +22,46 @@ struct Sums {
     third: u32,
 }
 
-// x - low, in 32 bits: far above every code if x is less.
-fn wrapping_excess(x: u32, low: u32) -> u32
-    requires { low ≤ back_lift }
-    ensures { Excess x low result }
-{
-    (((x as u64) + 4294967296 - (low as u64)) % 4294967296) as u32
-}
-
 // A sum that stands too high by low, clipped.
 fn clip(most: u16, low: u32, sum: u32) -> u16
     ensures { result ≡ min most (sum - low) }
 {
-    if sum < low {
-        0
-    } else if sum - low < most as u32 {
-        (sum - low) as u16
-    } else {
-        most
-    }
+    sum.saturating_sub(low).min(most as u32) as u16
 }
 
-// Nearly every pixel needs no clipping, and one test says so.
-fn codes(most: u16, low: u32, sums: Sums) -> Pixel
-    requires { low ≤ back_lift }
-    ensures { result ≡ codes_at most low sums }
-{
-    let first = wrapping_excess(sums.first, low);
-    let second = wrapping_excess(sums.second, low);
-    let third = wrapping_excess(sums.third, low);
-    if (first | second | third) <= most as u32 {
-        Pixel {
-            first: (first % 65536) as u16,
-            second: (second % 65536) as u16,
-            third: (third % 65536) as u16,
+impl Sums {
+    // The codes of sums that stand too high by low. Nearly every pixel needs no clipping, and one test says so: a
+    // sum below low wraps to far above every code.
+    fn codes(self, most: u16, low: u32) -> Pixel
+        requires { low ≤ back_lift }
+        ensures { result ≡ codes_at most low self }
+    {
+        let first = self.first.wrapping_sub(low);
+        let second = self.second.wrapping_sub(low);
+        let third = self.third.wrapping_sub(low);
+        if (first | second | third) <= most as u32 {
+            Pixel {
+                first: (first % 65536) as u16,
+                second: (second % 65536) as u16,
+                third: (third % 65536) as u16,
+            }
+        } else {
+            Pixel {
+                first: clip(most, low, self.first),
+                second: clip(most, low, self.second),
+                third: clip(most, low, self.third),
+            }
         }
-    } else {
-        Pixel {
-            first: clip(most, low, sums.first),
-            second: clip(most, low, sums.second),
-            third: clip(most, low, sums.third),
-        }
+    }
+
+    // Of sums back to e-sRGB: they stand too high by the lift less the offset.
+    fn codes_back(self, depth: Depth) -> Pixel
+        ensures { result ≡ codes_at (greatest (bits depth)) (back_lift - offset (bits depth)) self }
+    {
+        self.codes(
+            greatest_of(depth),
+            BACK_LIFT - 192 * (step_of(depth) as u32),
+        )
     }
 }
 
@@ -131,6 +130,7 @@ fn weighted_sum(p: Pixel) -> u32
 }
 
 // Luma: the weighted sum, counted from 1000 offsets.
+#[tactic(auto, unfolding(crate::specs::HowCounted::luma_sum))]
 fn luma_sum(factor: u64, low: u32, sum: u32) -> u32
     requires { (factor ≤ most_luma_factor) × (low ≤ most_low) × (sum ≤ most_sum) }
     ensures { result ≡ luma_sum factor low sum }
@@ -141,6 +141,7 @@ fn luma_sum(factor: u64, low: u32, sum: u32) -> u32
 
 // A chroma: how far 1000 times a channel is above the weighted sum, counted from the least that this can be,
 // so that one product does.
+#[tactic(auto, unfolding(crate::specs::HowCounted::chroma_sum))]
 fn chroma_sum(factor: u64, origin: u16, channel: u16, sum: u32) -> u32
     requires { (factor ≤ most_chroma_factor) × (origin ≤ most_middle) × (sum ≤ 1000 * channel + most_difference) }
     ensures { result ≡ chroma_sum factor origin channel sum }
@@ -151,16 +152,18 @@ fn chroma_sum(factor: u64, origin: u16, channel: u16, sum: u32) -> u32
     ((start + factor * (above as u64)) / UNIT) as u32
 }
 
-// Luma and the chromas of a pixel of codes, where origin is the code of no chroma.
-fn encode(f: Factors, origin: u16, step: u16, p: Pixel) -> Sums
-    requires { Few f × (origin ≤ most_middle) × (step ≤ 128) }
-    ensures { result ≡ sums_by f origin (192000 * step) p }
-{
-    let sum = weighted_sum(p);
-    Sums {
-        first: luma_sum(f.luma, 192000 * (step as u32), sum),
-        second: chroma_sum(f.cb, origin, p.third, sum),
-        third: chroma_sum(f.cr, origin, p.first, sum),
+impl Factors {
+    // Luma and the chromas of a pixel of codes, where origin is the code of no chroma.
+    fn encode(self, origin: u16, step: u16, p: Pixel) -> Sums
+        requires { Few self × (origin ≤ most_middle) × (step ≤ 128) }
+        ensures { result ≡ sums_by self origin (192000 * step) p }
+    {
+        let sum = weighted_sum(p);
+        Sums {
+            first: luma_sum(self.luma, 192000 * (step as u32), sum),
+            second: chroma_sum(self.cb, origin, p.third, sum),
+            third: chroma_sum(self.cr, origin, p.first, sum),
+        }
     }
 }
 
@@ -169,28 +172,28 @@ pub fn to_esycc(depth: Depth, p: Pixel) -> Pixel
     ensures { result ≡ to_esycc (bits depth) p }
 {
     let step = step_of(depth);
-    let sums = encode(esycc_factors(depth), 256 * step, step, p);
-    codes(greatest_of(depth), LIFT, sums)
+    let sums = esycc_factors(depth).encode(256 * step, step, p);
+    sums.codes(greatest_of(depth), LIFT)
 }
 
 // A chroma of sYCC is clipped before it is encoded, and so 0.5 at least, which is rounded to 1.
 fn at_least_one(sum: u32) -> u32
     ensures { result ≡ max (lift + 1) sum }
 {
-    if sum <= LIFT { LIFT + 1 } else { sum }
+    sum.max(LIFT + 1)
 }
 
 // A pixel of codes as sYCC.
 pub fn to_sycc(depth: Depth, p: Pixel) -> Pixel
     ensures { result ≡ to_sycc (bits depth) p }
 {
-    let sums = encode(sycc_factors(depth), 128, step_of(depth), p);
+    let sums = sycc_factors(depth).encode(128, step_of(depth), p);
     let clipped = Sums {
-        first: sums.first,
         second: at_least_one(sums.second),
         third: at_least_one(sums.third),
+        ..sums
     };
-    codes(255, LIFT, clipped)
+    clipped.codes(255, LIFT)
 }
 
 // ---- to e-sRGB
@@ -207,15 +210,32 @@ const BACK_ALLOWANCE: u64 = 524288;
 
 const BACK_START: u64 = (BACK_LIFT as u64) * BACK_UNIT + BACK_UNIT / 2 + BACK_ALLOWANCE;
 
-// A channel's start, and its shares of the chromas.
+// What a channel counts the chromas, in units.
 #[derive(Clone, Copy)]
-struct Row {
-    start: u64,
+struct Shares {
     cb: u64,
     cr: u64,
 }
 
-// The share of luma, and the rows of the channels.
+impl Shares {
+    fn of(self, cb: u32, cr: u32) -> u64
+        requires { (self.cb ≤ most_share) × (self.cr ≤ most_share) × (cb ≤ most_chroma) × (cr ≤ most_chroma) }
+        ensures value { result ≡ self.cb * cb + self.cr * cr }
+        ensures most { result ≤ most_share * (cb + cr) }
+    {
+        self.cb * (cb as u64) + self.cr * (cr as u64)
+    }
+}
+
+// A channel's start, which holds the shares of no chroma, and its shares of the chromas.
+#[derive(Clone, Copy)]
+struct Row {
+    start: u64,
+    shares: Shares,
+}
+
+// The share of luma, and the rows of the channels. The chromas are added to red and blue, and taken away from
+// green.
 #[derive(Clone, Copy)]
 struct Rows {
     luma: u64,
@@ -232,39 +252,40 @@ fn share(weight: u64, p: u64, q: u64) -> u64
     weight * p * BACK_UNIT / q
 }
 
-// The row of a channel to which the chromas are added, and from which they are taken away.
-fn adding_row(cb: u64, cr: u64, grey: u64) -> Row
-    requires { (cb ≤ most_share) × (cr ≤ most_share) × (grey ≤ most_middle) }
-    ensures { result ≡ adding_row cb cr grey }
-{
-    Row {
-        start: BACK_START - (cb * grey + cr * grey),
-        cb,
-        cr,
-    }
-}
-
-fn taking_row(cb: u64, cr: u64, grey: u64) -> Row
-    requires { (cb ≤ most_share) × (cr ≤ most_share) × (grey ≤ most_middle) }
-    ensures { result ≡ taking_row cb cr grey }
-{
-    Row {
-        start: BACK_START + (cb * grey + cr * grey),
-        cb,
-        cr,
-    }
-}
-
 // The rows where the scale is to 10000 times what stands for 1 as p to q, and grey stands for no chroma.
-fn rows_by(p: u64, q: u64, grey: u64) -> Rows
+fn rows_by(p: u64, q: u64, grey: u32) -> Rows
     requires { BackTerms p q grey }
-    ensures { result ≡ rows_by p q grey }
+    ensures luma { result.luma ≡ share_by 10000 p q }
+    ensures red { result.red ≡ adding_row (share_by 0 p q) (share_by 28040 p q) grey }
+    ensures green { result.green ≡ taking_row (share_by 6882 p q) (share_by 14282 p q) grey }
+    ensures blue { result.blue ≡ adding_row (share_by 35440 p q) (share_by 3 p q) grey }
 {
+    let red = Shares {
+        cb: share(0, p, q),
+        cr: share(28040, p, q),
+    };
+    let green = Shares {
+        cb: share(6882, p, q),
+        cr: share(14282, p, q),
+    };
+    let blue = Shares {
+        cb: share(35440, p, q),
+        cr: share(3, p, q),
+    };
     Rows {
         luma: share(10000, p, q),
-        red: adding_row(share(0, p, q), share(28040, p, q), grey),
-        green: taking_row(share(6882, p, q), share(14282, p, q), grey),
-        blue: adding_row(share(35440, p, q), share(3, p, q), grey),
+        red: Row {
+            start: BACK_START - red.of(grey, grey),
+            shares: red,
+        },
+        green: Row {
+            start: BACK_START + green.of(grey, grey),
+            shares: green,
+        },
+        blue: Row {
+            start: BACK_START - blue.of(grey, grey),
+            shares: blue,
+        },
     }
 }
 
@@ -288,77 +309,47 @@ fn sycc_rows(depth: Depth) -> Rows
     }
 }
 
-// So many units of luma.
-fn luma_units(share: u64, y: u32) -> u64
-    requires { (share ≤ most_luma_share) × (y ≤ most_luma) }
-    ensures { result ≡ share * y }
+// So many units, in whole codes.
+fn whole_codes(units: u64) -> u32
+    ensures { result ≡ units / back_unit }
 {
-    share * (y as u64)
+    (units / BACK_UNIT) as u32
 }
 
-// A channel, not yet clipped: luma with its shares of the chromas added, or taken away.
-fn add_chroma(start: u64, luma: u64, cb_share: u64, cb: u32, cr_share: u64, cr: u32) -> u32
-    requires { (start ≤ back_start) × (luma ≤ most_luma_share * most_luma) × (cb_share ≤ most_share) × (cb ≤ most_chroma) × (cr_share ≤ most_share) × (cr ≤ most_chroma) }
-    ensures { result ≡ with_chroma start luma (cb_share * cb + cr_share * cr) }
-{
-    let shares = cb_share * (cb as u64) + cr_share * (cr as u64);
-    ((start + luma + shares) / BACK_UNIT) as u32
-}
-
-fn take_chroma(start: u64, luma: u64, cb_share: u64, cb: u32, cr_share: u64, cr: u32) -> u32
-    requires { (back_start ≤ start) × (start ≤ 2 * back_start) × (luma ≤ most_luma_share * most_luma) × (cb_share ≤ most_taken) × (cb ≤ most_chroma) × (cr_share ≤ most_taken) × (cr ≤ most_chroma) }
-    ensures { result ≡ less_chroma start luma (cb_share * cb + cr_share * cr) }
-{
-    let shares = cb_share * (cb as u64) + cr_share * (cr as u64);
-    ((start + luma - shares) / BACK_UNIT) as u32
-}
-
-// The channels of a luma and two chromas.
-fn decode(rows: Rows, y: u32, cb: u32, cr: u32) -> Sums
-    requires { FewRows rows × (y ≤ most_luma) × (cb ≤ most_chroma) × (cr ≤ most_chroma) }
-    ensures { result ≡ back_sums_by rows y cb cr }
-{
-    let luma = luma_units(rows.luma, y);
-    Sums {
-        first: add_chroma(rows.red.start, luma, rows.red.cb, cb, rows.red.cr, cr),
-        second: take_chroma(rows.green.start, luma, rows.green.cb, cb, rows.green.cr, cr),
-        third: add_chroma(rows.blue.start, luma, rows.blue.cb, cb, rows.blue.cr, cr),
+impl Rows {
+    // The channels of a luma and two chromas, not yet clipped.
+    #[tactic(auto, unfolding(crate::specs::HowCounted::with_chroma, crate::specs::HowCounted::less_chroma))]
+    fn decode(self, y: u32, cb: u32, cr: u32) -> Sums
+        requires { FewRows self × (y ≤ most_luma) × (cb ≤ most_chroma) × (cr ≤ most_chroma) }
+        ensures first { result.first ≡ (back_sums_by self y cb cr).first }
+        ensures second { result.second ≡ (back_sums_by self y cb cr).second }
+        ensures third { result.third ≡ (back_sums_by self y cb cr).third }
+    {
+        let luma = self.luma * (y as u64);
+        Sums {
+            first: whole_codes(self.red.start + luma + self.red.shares.of(cb, cr)),
+            second: whole_codes(self.green.start + luma - self.green.shares.of(cb, cr)),
+            third: whole_codes(self.blue.start + luma + self.blue.shares.of(cb, cr)),
+        }
     }
-}
-
-// The sums as codes: they stand too high by the lift less the offset.
-fn codes_back(depth: Depth, sums: Sums) -> Pixel
-    ensures { result ≡ codes_at (greatest (bits depth)) (back_lift - offset (bits depth)) sums }
-{
-    codes(
-        greatest_of(depth),
-        BACK_LIFT - 192 * (step_of(depth) as u32),
-        sums,
-    )
 }
 
 // A pixel of e-sYCC as codes of the same depth.
 pub fn from_esycc(depth: Depth, p: Pixel) -> Pixel
     ensures { result ≡ from_esycc (bits depth) p }
 {
-    let sums = decode(
-        esycc_rows(depth),
-        p.first as u32,
-        p.second as u32,
-        p.third as u32,
-    );
-    codes_back(depth, sums)
+    let sums = esycc_rows(depth).decode(p.first as u32, p.second as u32, p.third as u32);
+    sums.codes_back(depth)
 }
 
 // A pixel of sYCC as codes. Luma counts four times and a chroma twice, so that all are over 1020.
 pub fn from_sycc(depth: Depth, p: Pixel) -> Pixel
     ensures { result ≡ from_sycc (bits depth) p }
 {
-    let sums = decode(
-        sycc_rows(depth),
+    let sums = sycc_rows(depth).decode(
         4 * (p.first as u32),
         2 * (p.second as u32),
         2 * (p.third as u32),
     );
-    codes_back(depth, sums)
+    sums.codes_back(depth)
 }

@@ -9,5 +9,6 @@ pub returns : goal.returns
 returns c =
     let a = c.args in
     let fits : Samples a.p = omega arith in
-    let sums = back_sums_are (of_esycc (bits a.depth) a.p) _ _ _ c.decode-sums.ensures c.esycc_rows.ensures (omega arith) (omega arith) (omega arith) in
+    let d = c.decode-sums.ensures in
+    let sums = back_sums_are (of_esycc (bits a.depth) a.p) _ _ _ d.first d.second d.third c.esycc_rows.ensures (omega arith) (omega arith) (omega arith) in
     rw (c.codes_back.ensures, sums) (is-channels (esycc-within a.depth a.p fits))

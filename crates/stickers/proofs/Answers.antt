@@ -4,15 +4,14 @@ use Prim.Native.Nat.{ℕ, ◌<◌, ◌≤◌}
 use mathlib.Core.Path.{◌≡◌, refl, sym, ap, subst, ◌∙◌}
 use mathlib.Core.List.{List, map}
 use native.Mathlib.Omega.{arith}
-use Rattle.refusal.specs.declared.Refusal.{Refusal}
+use Rattle.std.specs.Prelude.{Option, None, Some, Result, Ok, Err}
+use Rattle.refusal.specs.declared.Fault.{Fault}
 use Rattle.refusal.specs.Refusals.{number_of}
-use Rattle.refusal.specs.Answers.{Said, accepted, refused, refused_at, leaves}
+use Rattle.refusal.specs.Answers.{Said, accepted, refused, refused_at, at_place, fault_said, leaves}
 use Rattle.stickers.specs.declared.Choice.{Choice}
-use Rattle.stickers.specs.declared.Chosen.{Chosen}
-use Rattle.stickers.specs.declared.Chosen.TheVariants.{Accepted, Refused, RefusedAt}
 use Rattle.stickers.specs.Choices.{tint_of, allowed, choice_of}
 use Rattle.stickers.specs.Stickers as stickers
-use Rattle.stickers.specs.Stickers.{chooses, request_says, chosen_said, chooses_if, picture_of, stickers_says, stickers}
+use Rattle.stickers.specs.Stickers.{chooses, refuses_by, request_says, chosen_said, chooses_if, picture_of, stickers_says, stickers}
 use Rattle.stickers.specs.Promise.{Promised}
 use Rattle.stickers.proofs.InOrder.{all_counted}
 use Rattle.stickers.proofs.Best.{choice_promised}
@@ -22,15 +21,15 @@ never : (P : Type 0) → ◌≡◌ {A = ℕ} 0 1 → P
 never P e = absurd (omega arith)
 
 module _ (src tints : List ℕ) (budget room : ℕ) where
-  abbrev pub Meets : Chosen → List ℕ → List ℕ → Type 0
+  abbrev pub Meets : Result Choice Fault → List ℕ → List ℕ → Type 0
   Meets r before after =
       (chosen_said r ≡ stickers_says src tints budget room)
       × ((after ≡ leaves (request_says src tints budget room) (stickers src tints budget) before)
-      × ((choice : Choice) → r ≡ Accepted choice → Promised tints (picture_of src) budget choice))
+      × ((choice : Choice) → r ≡ Ok choice → Promised tints (picture_of src) budget choice))
 
   pub accepts :
       (n : ℕ) (choice : Choice) (before after : List ℕ) → request_says src tints budget room ≡ accepted n → 0 < budget
-      → choice ≡ choice_of tints (picture_of src) budget → after ≡ map (tint_of tints choice.four) (picture_of src) → Meets (Accepted choice) before after
+      → choice ≡ choice_of tints (picture_of src) budget → after ≡ map (tint_of tints choice.four) (picture_of src) → Meets (Ok choice) before after
   unfolding stickers_says stickers choice_of
   accepts n choice before after says some is bytes = (
     rw (says, is) refl,
@@ -42,18 +41,20 @@ module _ (src tints : List ℕ) (budget room : ℕ) where
     ),
   )
 
-  pub refuses : (r : Refusal) (before : List ℕ) → request_says src tints budget room ≡ refused (number_of r) → Meets (Refused r) before before
+  refuses_where : (number : ℕ) (place : Option ℕ) → request_says src tints budget room ≡ at_place number place → refuses_by number place ≡ stickers_says src tints budget room
   unfolding stickers_says
-  refuses r before says = (
-    rw says refl,
-    (sym (ap (λ s. leaves s (stickers src tints budget) before) says), λ choice e. never (Promised tints (picture_of src) budget choice) cc),
-  )
+  refuses_where number None says = rw says refl
+  refuses_where number (Some at) says = rw says refl
 
-  pub refuses-at : (r : Refusal) (at : ℕ) (before : List ℕ) → request_says src tints budget room ≡ refused_at (number_of r) at → Meets (RefusedAt r at) before before
-  unfolding stickers_says
-  refuses-at r at before says = (
-    rw says refl,
-    (sym (ap (λ s. leaves s (stickers src tints budget) before) says), λ choice e. never (Promised tints (picture_of src) budget choice) cc),
+  stays : (number : ℕ) (place : Option ℕ) (before : List ℕ) → request_says src tints budget room ≡ at_place number place
+      → before ≡ leaves (request_says src tints budget room) (stickers src tints budget) before
+  stays number None before says = rw says refl
+  stays number (Some at) before says = rw says refl
+
+  pub refuses : (fault : Fault) (before : List ℕ) → request_says src tints budget room ≡ fault_said fault → Meets (Err fault) before before
+  refuses fault before says = (
+    refuses_where (number_of fault.refusal) fault.place says,
+    (stays (number_of fault.refusal) fault.place before says, λ choice e. never (Promised tints (picture_of src) budget choice) cc),
   )
 
 -- ---- what an answer tells of the request
@@ -89,6 +90,13 @@ module _ (src tints : List ℕ) (budget room : ℕ) where
       (number place : ℕ) → stickers.refuses_at number place ≡ stickers_says src tints budget room → request_says src tints budget room ≡ refused_at number place
   unfolding stickers_says
   refused_at_says number place e = refuses_at_tells (request_says src tints budget room) _ number place e
+
+  pub fault_says : (fault : Fault) → chosen_said (Err fault) ≡ stickers_says src tints budget room → request_says src tints budget room ≡ fault_said fault
+  fault_says fault e = by (number_of fault.refusal) fault.place e
+    where
+      by : (number : ℕ) (place : Option ℕ) → refuses_by number place ≡ stickers_says src tints budget room → request_says src tints budget room ≡ at_place number place
+      by number None e = refused_says number e
+      by number (Some at) e = refused_at_says number at e
 
   -- No more choices are looked at than there are.
   pub looked_few : (choice : Choice) → chooses choice ≡ stickers_says src tints budget room → choice.looked ≤ 1820

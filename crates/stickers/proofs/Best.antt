@@ -8,8 +8,10 @@ use native.Mathlib.Nat.{le_refl}
 use native.Mathlib.Numerals.{add-one}
 use native.Mathlib.Omega.{arith}
 use borrow.Author.Tests.{ltb-true, ltb-false}
-use lib.Dec.{ltb}
+use lib.Dec.{ltb, eqb}
 use lib.ListN.{length, get_or, take, drop, length-take}
+use Rattle.std.specs.Ordering.{nat_cmp, is_lt, on, ord_min}
+use Rattle.std.specs.declared.cmp.Ordering.TheVariants.{Less, Equal, Greater}
 use lib.Seq.{drop-cons, drop-length, get_or-take, take_all}
 use Rattle.samples.specs.declared.Pixel.{Pixel}
 use Rattle.stickers.specs.declared.Four.{Four}
@@ -41,6 +43,15 @@ pub record Searching (sum : Four → ℕ) (limit : ℕ) (top : Summed) (k : ℕ)
   pub summed : top.sum ≡ sum top.four
   pub found : best sum (looked_at limit) ≡ best_from sum top.four (drop k (looked_at limit))
 
+-- The first of two numbers is taken unless the second is smaller.
+smaller_is : (x y : ℕ) → is_lt (nat_cmp x y) ≡ ltb x y
+smaller_is x y = by (ltb x y) (eqb x y)
+  where
+    by : (less same : Bool) → is_lt (cond less Less (cond same Equal Greater)) ≡ less
+    by true same = refl
+    by false true = refl
+    by false false = refl
+
 module _ (sum : Four → ℕ) (limit : ℕ) (most : limit ≤ length choices) where
   pub searching_first : (top : Summed) → 0 < limit → top.four ≡ first_choice → top.sum ≡ sum first_choice → Searching sum limit top 1
   unfolding best
@@ -57,19 +68,20 @@ module _ (sum : Four → ℕ) (limit : ℕ) (most : limit ≤ length choices) wh
 
   pub searching_more :
       (top later next : Summed) (k : ℕ) → k < limit → later.four ≡ get_or choices k first_choice → later.sum ≡ sum (get_or choices k first_choice)
-      → next ≡ cond (ltb later.sum top.sum) later top → Searching sum limit top k → Searching sum limit next (k + 1)
+      → next ≡ ord_min (on (λ (s : Summed). s.sum) nat_cmp) top later → Searching sum limit top k → Searching sum limit next (k + 1)
   unfolding best_from
   searching_more top later next k h is s e r =
       let g = get_or choices k first_choice in
+      let is_one : next ≡ cond (ltb later.sum top.sum) later top = e ∙ ap (λ b. cond b later top) (smaller_is later.sum top.sum) in
       let one = better top later (ltb later.sum top.sum) r.summed (s ∙ ap sum (sym is)) in
       let four_is : next.four ≡ cond (ltb (sum g) (sum top.four)) g top.four =
-      ap (λ x. x.four) e
+      ap (λ x. x.four) is_one
       ∙ one.1
       ∙ ap (λ x. cond (ltb x top.sum) later.four top.four) s
       ∙ ap (λ x. cond (ltb (sum g) x) later.four top.four) r.summed
       ∙ ap (λ x. cond (ltb (sum g) (sum top.four)) x top.four) is in
       record {
-        summed = ap (λ x. x.sum) e ∙ one.0 ∙ ap (λ x. sum x.four) (sym e);
+        summed = ap (λ x. x.sum) is_one ∙ one.0 ∙ ap (λ x. sum x.four) (sym is_one);
         found =
             r.found
             ∙ ap (best_from sum top.four) (looked_next limit k most h)

@@ -2,11 +2,14 @@
 -- Assumes nothing.
 use Prim.Native.Nat.{ℕ, zero, suc, ◌+◌, ◌-◌, ◌/◌, ◌≤◌, ◌<◌}
 use mathlib.Core.Path.{◌≡◌, refl, sym, ap, ◌∙◌}
-use mathlib.Core.Bool.{true, false, cond}
+use mathlib.Core.Bool.{true, false}
 use mathlib.Core.List.{List}
 use mathlib.Core.Logic.{⊎_elim}
 use native.Mathlib.Nat.{eq-or-lt_of_le}
+use native.Mathlib.Numerals.{add-one}
 use native.Mathlib.Omega.{arith}
+use Rattle.std.specs.Prelude.{Option, None, Some, MatchOption}
+use Rattle.std.specs.List.{AllWithin, HoldsAt}
 use borrow.Author.Tests.{lt-ltb, le-ltb, eq-eqb, ne_eqb, ltb-false, eqb-true, eqb-false, not-false}
 use lib.Dec.{ltb, eqb}
 use lib.ListN.{length, get_or}
@@ -54,14 +57,38 @@ module _ (done : Said) (len : ℕ) (tints : List ℕ) where
       let e : tint_codes - k ≡ 0 = omega arith in
       rw e refl
 
--- ---- the tints, the budget and the number of pixels
-module _ (len : ℕ) (tints : List ℕ) (budget pixels k : ℕ) (is : (done : Said) (len : ℕ) → tints_say done len tints ≡ cond (ltb k tint_codes) (refused_at 12 (len + k)) done) where
-  pub work_12 : k < tint_codes → refused_at 12 (len + k) ≡ work_says len tints budget pixels
-  work_12 h = sym (is _ len ∙ rw (lt-ltb k tint_codes h) refl)
+  -- Where none of the first k codes is too great, the others say what all say.
+  codes_before : (k : ℕ) → k ≤ tint_codes → ((j : ℕ) → j < k → get_or tints j 0 ≤ greatest 12) → tints_say done len tints ≡ codes_say done len tints k (tint_codes - k)
+  codes_before zero h small = refl
+  codes_before (suc k) h small =
+      rw (← add-one k)
+      (codes_before k (omega arith) (λ j l. small j (omega arith)) ∙ codes_next k (omega arith) (small k (omega arith)))
 
-  module _ (codes : tint_codes ≤ k) where
+-- The number of the first code that is too great, if there is one.
+abbrev pub FirstAbove : List ℕ → Option ℕ → Type 0
+FirstAbove tints found =
+    MatchOption found (AllWithin (λ x. x ≤ greatest 12) tints 0 (length tints))
+    (λ k. (k < length tints) × HoldsAt (λ x. greatest 12 < x) tints k × AllWithin (λ x. x ≤ greatest 12) tints 0 k)
+
+pub first_says :
+    (tints : List ℕ) (found : Option ℕ) → length tints ≡ tint_codes → FirstAbove tints found
+    → MatchOption found ((done : Said) (len : ℕ) → tints_say done len tints ≡ done)
+    (λ k. (k < tint_codes) × ((done : Said) (len : ℕ) → tints_say done len tints ≡ refused_at 12 (len + k)))
+first_says tints None whole small =
+    λ done len. codes_before done len tints tint_codes (omega arith) (λ j h. small j 0 (omega arith) (omega arith)) ∙ codes_end done len tints tint_codes (omega arith)
+first_says tints (Some k) whole first = (
+  omega (arith, first.0),
+  λ done len. codes_before done len tints k (omega (arith, first.0)) (λ j h. first.2 j 0 (omega arith) h) ∙ codes-above done len tints k (omega (arith, first.0)) (first.1 0),
+)
+
+-- ---- the tints, the budget and the number of pixels
+module _ (len : ℕ) (tints : List ℕ) (budget pixels : ℕ) where
+  pub work_12 : (k : ℕ) → ((done : Said) (len : ℕ) → tints_say done len tints ≡ refused_at 12 (len + k)) → refused_at 12 (len + k) ≡ work_says len tints budget pixels
+  work_12 k is = sym (is _ len)
+
+  module _ (codes : (done : Said) (len : ℕ) → tints_say done len tints ≡ done) where
     pub work_rest : work_says len tints budget pixels ≡ refuses_or (work_fault budget pixels) (accepted (allowed budget))
-    work_rest = is _ len ∙ rw (le-ltb k tint_codes codes) refl
+    work_rest = codes _ len
 
     pub work_18 : budget ≡ 0 → refused 18 ≡ work_says len tints budget pixels
     work_18 h = sym (work_rest ∙ rw (eq-eqb budget 0 h) refl)

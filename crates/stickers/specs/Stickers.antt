@@ -1,6 +1,7 @@
 -- What the operation on buffers answers and writes (rules 13.7 and 13.8).
 -- Assumes nothing.
-use Rattle.std.specs.Prelude.{ℕ, zero, suc, ◌+◌, ◌/◌, true, false, cond, List, map, eqb, ltb, length, get_or}
+use Rattle.std.specs.Prelude.{Option, None, Some, Result, Ok, Err, ℕ, zero, suc, ◌+◌, ◌/◌, true, false, cond, List, map, eqb, ltb, length, get_or}
+use Rattle.refusal.specs.declared.Fault.{Fault}
 use Rattle.refusal.specs.Refusals.{number_of}
 use Rattle.refusal.specs.Answers.{Verdict, sound, faulty, or_else, Said, accepted, refused, refused_at, decides, refuses_or, and_then}
 use Rattle.samples.specs.declared.Coding.TheVariants.{Codes}
@@ -9,8 +10,6 @@ use Rattle.samples.specs.Samples.{pixel_size, two_by_two, read}
 use Rattle.samples.specs.Faults.{fault, length_fault, room_fault, samples_say}
 use Rattle.esrgb.specs.Depths.{greatest}
 use Rattle.stickers.specs.declared.Choice.{Choice}
-use Rattle.stickers.specs.declared.Chosen.{Chosen}
-use Rattle.stickers.specs.declared.Chosen.TheVariants as variants
 use Rattle.stickers.specs.Choices.{tint_codes, allowed, tint_of, chosen, choice_of}
 
 -- Rule 13.8, the picture: 10, 16, 11 for a destination that is not one byte to a pixel, and 12. Its pixels are counted.
@@ -51,10 +50,14 @@ pub data ChoiceSaid : Type 0 where
   refuses : ℕ → ChoiceSaid
   refuses_at : ℕ → ℕ → ChoiceSaid
 
-abbrev pub chosen_said : Chosen → ChoiceSaid
-chosen_said (variants.Accepted choice) = chooses choice
-chosen_said (variants.Refused r) = refuses (number_of r)
-chosen_said (variants.RefusedAt r at) = refuses_at (number_of r) at
+-- What a fault says of a choice: the number and, where it has one, the place.
+abbrev pub refuses_by : ℕ → Option ℕ → ChoiceSaid
+refuses_by number None = refuses number
+refuses_by number (Some at) = refuses_at number at
+
+abbrev pub chosen_said : Result Choice Fault → ChoiceSaid
+chosen_said (Ok choice) = chooses choice
+chosen_said (Err fault) = refuses_by (number_of fault.refusal) fault.place
 
 abbrev pub chooses_if : Said → Choice → ChoiceSaid
 chooses_if (accepted n) choice = chooses choice

@@ -4,9 +4,9 @@
 // sum; it asks nothing of a caller.
 #![tactic(auto)]
 
-ghost use Rattle.std.specs.Prelude.{◌≡◌, cond, map, ℕ, ◌+◌, ◌*◌, ◌^◌, ◌≤◌, ◌<◌, min, ltb, length, get_or, drop};
+ghost use Rattle.std.specs.Prelude.{MatchOption, ◌≡◌, cond, map, ℕ, ◌+◌, ◌*◌, ◌^◌, ◌≤◌, ◌<◌, min, ltb, length, get_or, drop};
 ghost use Rattle.refusal.specs.Answers.{Said, said, refused_at, leaves};
-ghost use Rattle.samples.specs.Samples.{two_by_two};
+ghost use Rattle.samples.specs.Samples.{two_by_two, no_pixel};
 ghost use Rattle.stickers.specs.Distances.{tint, apart, away, tint_luma, summed};
 ghost use Rattle.stickers.specs.Choices.{tint_count, tint_codes, four, choices, tint_of, sum_of, least_of_all, sum_of_all, choice_of};
 ghost use Rattle.stickers.specs.Stickers.{picture_says, tints_say, most_pixels, work_says, request_says, picture_of, chosen_said, stickers_says, stickers};
@@ -17,8 +17,10 @@ ghost use Rattle.stickers.specs.HowTaken.{tie_rank, rank, TieRanks};
 use esrgb::Depth;
 use lumachroma::to_luma_chroma;
 use numbers::lower;
-use refusal::{Answer, Refusal};
+use refusal::{Answer, Fault, Refusal};
 use samples::{Pixel, judge, pixel_at, whole_pixels};
+use std::array;
+use std::cmp::min_by_key;
 
 // Four tints by number, ascending.
 #[derive(Clone, Copy)]
@@ -39,36 +41,29 @@ pub struct Choice {
     pub least: u32,
 }
 
-#[derive(Clone, Copy)]
-pub enum Chosen {
-    Accepted(Choice),
-    Refused(Refusal),
-    // Refused, with the place of the sample or of the tint's code.
-    RefusedAt(Refusal, usize),
-}
-
 const TINTS: usize = 16;
 
 // The codes of the tints, three to a tint.
 pub const TINT_CODES: usize = 48;
 
 // Chooses four tints for a picture, and writes the number of each pixel's tint.
-pub fn choose(src: &[u8], tints: &[u16; TINT_CODES], budget: usize, dst: &mut [u8]) -> Chosen
+pub fn choose(
+    src: &[u8],
+    tints: &[u16; TINT_CODES],
+    budget: usize,
+    dst: &mut [u8],
+) -> Result<Choice, Fault>
     ensures answer { chosen_said result ≡ stickers_says src.now tints.now budget (length dst.old) }
     ensures bytes { dst.new ≡ leaves (request_says src.now tints.now budget (length dst.old)) (stickers src.now tints.now budget) dst.old }
-    ensures promise { (choice : Choice) → result ≡ Chosen.Accepted choice → Promised tints.now (picture_of src.now) budget choice }
+    ensures promise { (choice : Choice) → result ≡ Ok choice → Promised tints.now (picture_of src.now) budget choice }
 {
-    let judged = judge_request(src, tints, budget, dst.len());
-    match judged {
-        Answer::Done(limit) => {
-            let choice = search(src, tints, limit);
-            let four = choice.four;
-            write_tints(src, tints, four, dst);
-            Chosen::Accepted(choice)
-        }
-        Answer::Refused(refusal) => Chosen::Refused(refusal),
-        Answer::RefusedAt(refusal, at) => Chosen::RefusedAt(refusal, at),
-    }
+    let limit = judge_request(src, tints, budget, dst.len())?;
+    let picture = Picture { src };
+    let tints = Tints { codes: tints };
+    let choice = search(picture, tints, limit);
+    let palette = Palette::of(tints, choice.four);
+    palette.write_tints(picture, dst);
+    Ok(choice)
 }
 
 // ---- what is refused
@@ -84,100 +79,126 @@ const CHOICES: usize = 1820;
 fn judge_request(src: &[u8], tints: &[u16; TINT_CODES], budget: usize, room: usize) -> Answer
     ensures { said result ≡ request_says src.now tints.now budget room }
 {
-    let judged = judge_picture(src, room);
-    match judged {
-        Answer::Done(pixels) => judge_work(src, tints, budget, pixels),
-        Answer::Refused(_) => judged,
-        Answer::RefusedAt(_, _) => judged,
-    }
+    let pixels = judge_picture(src, room)?;
+    judge_work(src, tints, budget, pixels)
 }
 
 // The picture, and the room for a byte to each pixel.
 fn judge_picture(src: &[u8], room: usize) -> Answer
     ensures { said result ≡ picture_says src.now room }
 {
-    let counted = whole_pixels(true, src.len());
-    match counted {
-        Answer::Done(pixels) => {
-            if room != pixels {
-                return Answer::Refused(Refusal::WrongDestinationLength);
-            }
-            judge(false, GREATEST_CODE, src, pixels)
-        }
-        Answer::Refused(_) => counted,
-        Answer::RefusedAt(_, _) => counted,
+    let pixels = whole_pixels(true, src.len())?;
+    if room != pixels {
+        return Err(Refusal::WrongDestinationLength.into());
     }
+    judge(false, GREATEST_CODE, src, pixels)
 }
 
 // The tints, the budget and the number of pixels.
 fn judge_work(src: &[u8], tints: &[u16; TINT_CODES], budget: usize, pixels: usize) -> Answer
     ensures { said result ≡ work_says (length src.now) tints.now budget pixels }
 {
-    let k = first_above(tints);
-    if k < TINT_CODES {
-        return Answer::RefusedAt(Refusal::SampleTooGreat, src.len() + k);
+    if let Some(k) = first_above(tints) {
+        return Err(Refusal::SampleTooGreat.at(src.len() + k));
     }
     if budget == 0 {
-        return Answer::Refused(Refusal::NoBudget);
+        return Err(Refusal::NoBudget.into());
     }
     if MOST_PIXELS < pixels {
-        return Answer::Refused(Refusal::TooManyPixels);
+        return Err(Refusal::TooManyPixels.into());
     }
-    if budget < CHOICES {
-        return Answer::Done(budget);
-    }
-    Answer::Done(CHOICES)
+    Ok(budget.min(CHOICES))
 }
 
-// The number of the first code of the tints above the greatest; the number of codes if there is none.
-fn first_above(tints: &[u16; TINT_CODES]) -> usize
-    ensures { (done : Said) (len : ℕ) → tints_say done len tints.now ≡ cond (ltb result tint_codes) (refused_at 12 (len + result)) done }
+// The number of the first code of the tints above the greatest.
+fn first_above(tints: &[u16; TINT_CODES]) -> Option<usize>
+    ensures { MatchOption result ((done : Said) (len : ℕ) → tints_say done len tints.now ≡ done) (λ k. (k < tint_codes) × ((done : Said) (len : ℕ) → tints_say done len tints.now ≡ refused_at 12 (len + k))) }
 {
-    let mut k = 0;
-    while k < TINT_CODES {
-        if GREATEST_CODE < tints[k] {
-            return k;
+    tints.iter().position(|code| GREATEST_CODE < *code)
+}
+
+// ---- what was accepted
+
+// A pixel of codes of 12 bits.
+#[derive(Clone, Copy)]
+struct Colour {
+    pixel: Pixel,
+    ghost codes: { CodePixel pixel },
+}
+
+// An accepted picture: no code is too great, and there are no more pixels than the sticker printer takes.
+#[derive(Clone, Copy)]
+struct Picture<'a> {
+    src: &'a [u8],
+    ghost codes: { AllCodes (two_by_two src.now) },
+    ghost few: { length (picture_of src.now) ≤ most_pixels },
+}
+
+impl Picture<'_> {
+    fn pixel_count(self) -> usize
+        ensures { result ≡ length (picture_of self.entry.src.now) }
+    {
+        self.src.len() / 6
+    }
+
+    // Pixel i.
+    fn colour_at(self, i: usize) -> Colour
+        ensures { result.pixel ≡ get_or (picture_of self.entry.src.now) i no_pixel }
+    {
+        Colour {
+            pixel: pixel_at(self.src, true, i),
         }
-        k += 1;
-    }
-    k
-}
-
-// ---- distances
-
-fn difference(x: u16, y: u16) -> u16
-    ensures { result ≡ apart x y }
-{
-    if x < y { y - x } else { x - y }
-}
-
-// Tint t as a pixel.
-fn tint_at(tints: &[u16; TINT_CODES], t: usize) -> Pixel
-    requires { t < tint_count }
-    ensures { result ≡ tint tints.now t }
-{
-    Pixel {
-        first: tints[3 * t],
-        second: tints[3 * t + 1],
-        third: tints[3 * t + 2],
     }
 }
 
-// The distance of a pixel to tint t.
-fn distance_to(tints: &[u16; TINT_CODES], pixel: Pixel, t: usize) -> u16
-    requires { TintCodes tints.now × CodePixel pixel × (t < tint_count) }
-    ensures { result ≡ away tints.now pixel t }
-{
-    let tint = tint_at(tints, t);
-    difference(pixel.first, tint.first)
-        + difference(pixel.second, tint.second)
-        + difference(pixel.third, tint.third)
+// The accepted tints: no code is too great.
+#[derive(Clone, Copy)]
+struct Tints<'a> {
+    codes: &'a [u16; TINT_CODES],
+    ghost small: { TintCodes codes.now },
 }
 
-fn lesser(x: u16, y: u16) -> u16
-    ensures { result ≡ min x y }
-{
-    if y < x { y } else { x }
+impl Tints<'_> {
+    // Tint t as a pixel.
+    fn tint_at(self, t: usize) -> Pixel
+        requires { t < tint_count }
+        ensures { result ≡ tint self.entry.codes.now t }
+    {
+        Pixel {
+            first: self.codes[3 * t],
+            second: self.codes[3 * t + 1],
+            third: self.codes[3 * t + 2],
+        }
+    }
+
+    // The distance of a pixel to tint t.
+    fn distance_to(self, colour: Colour, t: usize) -> u16
+        requires { t < tint_count }
+        ensures { result ≡ away self.entry.codes.now colour.pixel t }
+    {
+        let pixel = colour.pixel;
+        let tint = self.tint_at(t);
+        pixel.first.abs_diff(tint.first)
+            + pixel.second.abs_diff(tint.second)
+            + pixel.third.abs_diff(tint.third)
+    }
+
+    // The luma of tint t, rounded as in a picture.
+    fn tint_luma(self, t: usize) -> u16
+        requires { t < tint_count }
+        ensures { result ≡ tint_luma self.entry.codes.now t }
+    {
+        let converted = to_luma_chroma(Depth::Twelve, self.tint_at(t));
+        converted.first
+    }
+
+    // What decides between tints that are as near, of tint t.
+    fn tie_rank(self, t: usize) -> u16
+        requires { t < tint_count }
+        ensures { result ≡ tie_rank self.entry.codes.now t }
+    {
+        RANKS * self.tint_luma(t) + t as u16
+    }
 }
 
 // ---- the sums, block by block
@@ -195,81 +216,84 @@ const ENTRIES: usize = 4096;
 fn row_of(t: u8) -> usize
     ensures { result ≡ row_of t }
 {
-    BLOCK * (t as usize)
+    BLOCK * usize::from(t)
 }
 
 // Puts a pixel's distances in column k of the rows. The result is the least of them.
-fn fill_column(tints: &[u16; TINT_CODES], pixel: Pixel, k: usize, rows: &mut [u16; ENTRIES]) -> u16
-    requires { TintCodes tints.now × CodePixel pixel × (k < block_size) × (length rows.old ≡ entry_count) }
-    ensures least { result ≡ least_of_all tints.now pixel }
-    ensures column { Column tints.now pixel k rows.old rows.new }
+fn fill_column(tints: Tints, colour: Colour, k: usize, rows: &mut [u16; ENTRIES]) -> u16
+    requires { k < block_size }
+    ensures least { result ≡ least_of_all tints.entry.codes.now colour.pixel }
+    ensures column { Column tints.entry.codes.now colour.pixel k rows.old rows.new }
 {
-    let mut least = distance_to(tints, pixel, 0);
-    let mut t = 0;
-    while t < TINTS {
-        let distance = distance_to(tints, pixel, t);
+    let mut least = tints.distance_to(colour, 0);
+    for t in 0..TINTS {
+        let distance = tints.distance_to(colour, t);
         rows[BLOCK * t + k] = distance;
-        least = lesser(least, distance);
-        t += 1;
+        least = least.min(distance);
     }
     least
 }
 
 // Fills the rows for `count` pixels from number `start` on. The result is the sum of their least distances.
 fn fill_block(
-    src: &[u8],
-    tints: &[u16; TINT_CODES],
+    picture: Picture,
+    tints: Tints,
     start: usize,
     count: usize,
     rows: &mut [u16; ENTRIES],
 ) -> u32
-    requires { TintCodes tints.now × AllCodes (two_by_two src.now) × (count ≤ block_size) × (start + count ≤ length (picture_of src.now)) × (length rows.old ≡ entry_count) }
-    ensures least { summed (least_of_all tints.now) (drop start (picture_of src.now)) ≡ result + summed (least_of_all tints.now) (drop (start + count) (picture_of src.now)) }
+    requires { (count ≤ block_size) × (start + count ≤ length (picture_of picture.src.now)) }
+    ensures least { summed (least_of_all tints.entry.codes.now) (drop start (picture_of picture.entry.src.now)) ≡ result + summed (least_of_all tints.entry.codes.now) (drop (start + count) (picture_of picture.entry.src.now)) }
     ensures few { result ≤ most_entry * count }
-    ensures block { BlockOf tints.now (picture_of src.now) start count rows.new }
+    ensures block { BlockOf tints.entry.codes.now (picture_of picture.entry.src.now) start count rows.new }
     ensures whole { length rows.new ≡ entry_count }
 {
     let mut sum: u32 = 0;
-    let mut k = 0;
-    while k < count {
-        let pixel = pixel_at(src, true, start + k);
-        sum += fill_column(tints, pixel, k, rows) as u32;
-        k += 1;
+    for k in 0..count {
+        let colour = picture.colour_at(start + k);
+        sum += u32::from(fill_column(tints, colour, k, rows));
     }
     sum
 }
 
-// The sum over a block of the least of four rows, which start at a, b, c and d.
-fn row_sum(rows: &[u16; ENTRIES], a: usize, b: usize, c: usize, d: usize, count: usize) -> u32
-    requires { (count ≤ block_size) × (a + count ≤ entry_count) × (b + count ≤ entry_count) × (c + count ≤ entry_count) × (d + count ≤ entry_count) }
-    ensures sum { result ≡ row_sum rows.now a b c d count }
-    ensures few { result ≤ most_entry * count }
-{
-    let mut sum: u32 = 0;
-    let mut k = 0;
-    while k < count {
-        let two = lesser(rows[a + k], rows[b + k]);
-        let three = lesser(two, rows[c + k]);
-        sum += lesser(three, rows[d + k]) as u32;
-        k += 1;
-    }
-    sum
+// The rows of a block, and the number of its pixels.
+#[derive(Clone, Copy)]
+struct Block<'a> {
+    rows: &'a [u16; ENTRIES],
+    count: usize,
+    ghost within: { count ≤ block_size },
 }
 
-// The sum of a choice over a block.
-fn four_sum(rows: &[u16; ENTRIES], four: Four, count: usize) -> u32
-    requires { Ascending four × (count ≤ block_size) }
-    ensures sum { result ≡ four_sum rows.now four count }
-    ensures few { result ≤ most_entry * count }
-{
-    row_sum(
-        rows,
-        row_of(four.first),
-        row_of(four.second),
-        row_of(four.third),
-        row_of(four.fourth),
-        count,
-    )
+impl Block<'_> {
+    // The sum of the least of four rows, which start at a, b, c and d.
+    fn row_sum(self, a: usize, b: usize, c: usize, d: usize) -> u32
+        requires { (a + self.count ≤ entry_count) × (b + self.count ≤ entry_count) × (c + self.count ≤ entry_count) × (d + self.count ≤ entry_count) }
+        ensures sum { result ≡ row_sum self.entry.rows.now a b c d self.entry.count }
+        ensures few { result ≤ most_entry * self.entry.count }
+    {
+        let rows = self.rows;
+        let mut sum: u32 = 0;
+        for k in 0..self.count {
+            let two = rows[a + k].min(rows[b + k]);
+            let three = two.min(rows[c + k]);
+            sum += u32::from(three.min(rows[d + k]));
+        }
+        sum
+    }
+
+    // The sum of a choice.
+    fn four_sum(self, four: Four) -> u32
+        requires { Ascending four }
+        ensures sum { result ≡ four_sum self.entry.rows.now four self.entry.count }
+        ensures few { result ≤ most_entry * self.entry.count }
+    {
+        self.row_sum(
+            row_of(four.first),
+            row_of(four.second),
+            row_of(four.third),
+            row_of(four.fourth),
+        )
+    }
 }
 
 // ---- the choices, one after another
@@ -310,51 +334,6 @@ fn following(choice: Four) -> Four
     choice
 }
 
-// Adds a block's sums to those of the first choices, as many as the limit.
-fn add_block(rows: &[u16; ENTRIES], count: usize, limit: usize, sums: &mut [u32; CHOICES])
-    requires { (count ≤ block_size) × (limit ≤ length choices) × ((k : ℕ) → k < limit → get_or sums.old k 0 + most_entry * count < 2 ^ 32) × (length sums.old ≡ length choices) }
-    ensures { Added rows.now count limit sums.old sums.new }
-{
-    let mut four = four_of(0, 1, 2, 3);
-    let mut k = 0;
-    while k < limit {
-        sums[k] = sums[k] + four_sum(rows, four, count);
-        four = following(four);
-        k += 1;
-    }
-}
-
-// How many of the pixels that are left go into a block.
-fn block_of(left: usize) -> usize
-    ensures { result ≡ min left block_size }
-{
-    if left < BLOCK { left } else { BLOCK }
-}
-
-// Adds the sums of the first choices over a picture, as many as the limit. The result is the sum with all tints.
-fn add_picture(
-    src: &[u8],
-    tints: &[u16; TINT_CODES],
-    limit: usize,
-    sums: &mut [u32; CHOICES],
-) -> u32
-    requires { TintCodes tints.now × AllCodes (two_by_two src.now) × (limit ≤ length choices) × (length (picture_of src.now) ≤ most_pixels) × ((k : ℕ) → get_or sums.old k 0 ≡ 0) × (length sums.old ≡ length choices) }
-    ensures least { result ≡ sum_of_all tints.now (picture_of src.now) }
-    ensures sums { SumsOf (sum_of tints.now (picture_of src.now)) limit sums.new }
-{
-    let pixels = src.len() / 6;
-    let mut rows = [0u16; ENTRIES];
-    let mut least: u32 = 0;
-    let mut start = 0;
-    while start < pixels {
-        let count = block_of(pixels - start);
-        least += fill_block(src, tints, start, count, &mut rows);
-        add_block(&rows, count, limit, sums);
-        start += count;
-    }
-    least
-}
-
 // ---- the choice
 
 // A choice with its sum.
@@ -364,44 +343,87 @@ struct Summed {
     sum: u32,
 }
 
-// A later choice, if its sum is smaller, or the one before.
-fn smaller(before: Summed, later: Summed) -> Summed
-    ensures { result ≡ cond (ltb later.sum before.sum) later before }
-{
-    if later.sum < before.sum {
-        later
-    } else {
-        before
-    }
+// The sums of the first choices, as many as the limit, and 0 behind them.
+#[derive(Drop)]
+struct Sums {
+    all: [u32; CHOICES],
+    limit: usize,
+    ghost whole: { length all ≡ length choices },
+    ghost some: { 0 < limit },
+    ghost within: { limit ≤ length choices },
 }
 
-// The earliest of the first choices with the smallest sum, whatever the sums are of.
-fn earliest(sums: &[u32; CHOICES], limit: usize) -> Summed
-    requires { (0 < limit) × (limit ≤ length choices) }
-    ensures { (sum : Four → ℕ) → SumsOf sum limit sums.now → BestOf sum limit result }
-{
-    let mut four = four_of(0, 1, 2, 3);
-    let mut best = Summed { four, sum: sums[0] };
-    let mut k = 1;
-    while k < limit {
-        four = following(four);
-        best = smaller(best, Summed { four, sum: sums[k] });
-        k += 1;
+impl Sums {
+    fn new(limit: usize) -> Sums
+        requires { (0 < limit) × (limit ≤ length choices) }
+        ensures none { (k : ℕ) → get_or result.all k 0 ≡ 0 }
+        ensures limit { result.limit ≡ limit }
+    {
+        Sums {
+            all: [0; CHOICES],
+            limit,
+        }
     }
-    best
+
+    // Adds a block's sums.
+    fn add_block(&mut self, block: Block)
+        requires { (k : ℕ) → k < self.old.limit → get_or self.old.all k 0 + most_entry * block.count < 2 ^ 32 }
+        ensures added { Added block.entry.rows.now block.entry.count self.old.limit self.old.all self.new.all }
+        ensures limit { self.new.limit ≡ self.old.limit }
+    {
+        let mut four = four_of(0, 1, 2, 3);
+        for k in 0..self.limit {
+            self.all[k] += block.four_sum(four);
+            four = following(four);
+        }
+    }
+
+    // Adds the sums over a picture. The result is the sum with all tints.
+    fn add_picture(&mut self, picture: Picture, tints: Tints) -> u32
+        requires { (k : ℕ) → get_or self.old.all k 0 ≡ 0 }
+        ensures least { result ≡ sum_of_all tints.entry.codes.now (picture_of picture.entry.src.now) }
+        ensures sums { SumsOf (sum_of tints.entry.codes.now (picture_of picture.entry.src.now)) self.old.limit self.new.all }
+        ensures limit { self.new.limit ≡ self.old.limit }
+    {
+        let pixels = picture.pixel_count();
+        let mut rows = [0u16; ENTRIES];
+        let mut least: u32 = 0;
+        for start in (0..pixels).step_by(BLOCK) {
+            let count = BLOCK.min(pixels - start);
+            least += fill_block(picture, tints, start, count, &mut rows);
+            self.add_block(Block { rows: &rows, count });
+        }
+        least
+    }
+
+    // The earliest choice with the smallest sum, whatever the sums are of.
+    fn earliest(&self) -> Summed
+        ensures { (sum : Four → ℕ) → SumsOf sum self.now.limit self.now.all → BestOf sum self.now.limit result }
+    {
+        let mut four = four_of(0, 1, 2, 3);
+        let mut best = Summed {
+            four,
+            sum: self.all[0],
+        };
+        for sum in &self.all[1..self.limit] {
+            four = following(four);
+            let later = Summed { four, sum: *sum };
+            best = min_by_key(best, later, |choice| choice.sum);
+        }
+        best
+    }
 }
 
 // The choice for a picture, of the first choices up to the limit.
-fn search(src: &[u8], tints: &[u16; TINT_CODES], limit: usize) -> Choice
-    requires { TintCodes tints.now × AllCodes (two_by_two src.now) × (0 < limit) × (limit ≤ length choices) × (length (picture_of src.now) ≤ most_pixels) }
-    ensures { result ≡ choice_of tints.now (picture_of src.now) limit }
+fn search(picture: Picture, tints: Tints, limit: usize) -> Choice
+    requires { (0 < limit) × (limit ≤ length choices) }
+    ensures { result ≡ choice_of tints.entry.codes.now (picture_of picture.entry.src.now) limit }
 {
-    let mut sums = [0u32; CHOICES];
-    let least = add_picture(src, tints, limit, &mut sums);
-    let best = earliest(&sums, limit);
-    let four = best.four;
+    let mut sums = Sums::new(limit);
+    let least = sums.add_picture(picture, tints);
+    let best = sums.earliest();
     Choice {
-        four,
+        four: best.four,
         sum: best.sum,
         looked: limit,
         least,
@@ -419,66 +441,53 @@ const RANKS: u16 = 16;
 // The ranks of a distance: those of all lumas of 12 bits.
 const RANK_SPAN: u32 = 65536;
 
-// The luma of tint t, rounded as in a picture.
-fn tint_luma(tints: &[u16; TINT_CODES], t: usize) -> u16
-    requires { t < tint_count }
-    ensures { result ≡ tint_luma tints.now t }
-{
-    let converted = to_luma_chroma(Depth::Twelve, tint_at(tints, t));
-    converted.first
+// The four tints that pixels take, and what decides ties between tints, worked out once for a picture.
+#[derive(Drop)]
+struct Palette<'a> {
+    tints: Tints<'a>,
+    four: Four,
+    ties: [u16; TINTS],
+    ghost ascending: { Ascending four },
+    ghost ranked: { TieRanks tints.codes.now ties },
 }
 
-// What decides between tints that are as near, of tint t.
-fn tie_rank(tints: &[u16; TINT_CODES], t: usize) -> u16
-    requires { TintCodes tints.now × (t < tint_count) }
-    ensures { result ≡ tie_rank tints.now t }
-{
-    RANKS * tint_luma(tints, t) + (t as u16)
-}
-
-// The same of all tints, so that it is worked out once for a picture.
-fn fill_tie_ranks(tints: &[u16; TINT_CODES], ranks: &mut [u16; TINTS])
-    requires { TintCodes tints.now × (length ranks.old ≡ tint_count) }
-    ensures { TieRanks tints.now ranks.new }
-{
-    let mut t = 0;
-    while t < TINTS {
-        ranks[t] = tie_rank(tints, t);
-        t += 1;
+impl Palette<'_> {
+    fn of(tints: Tints, four: Four) -> Palette
+        requires { Ascending four }
+        ensures tints { result.tints ≡ tints.entry }
+        ensures four { result.four ≡ four }
+    {
+        let ties = array::from_fn(|t| tints.tie_rank(t));
+        Palette { tints, four, ties }
     }
-}
 
-// The rank of tint t for a pixel.
-fn rank_of(tints: &[u16; TINT_CODES], ranks: &[u16; TINTS], pixel: Pixel, t: u8) -> u32
-    requires { TintCodes tints.now × TieRanks tints.now ranks.now × CodePixel pixel × (t < tint_count) }
-    ensures { result ≡ rank tints.now pixel t }
-{
-    RANK_SPAN * (distance_to(tints, pixel, t as usize) as u32) + (ranks[t as usize] as u32)
-}
+    // The rank of tint t for a pixel.
+    fn rank_of(&self, colour: Colour, t: u8) -> u32
+        requires { t < tint_count }
+        ensures { result ≡ rank self.now.tints.codes.now colour.pixel t }
+    {
+        let t = usize::from(t);
+        RANK_SPAN * u32::from(self.tints.distance_to(colour, t)) + u32::from(self.ties[t])
+    }
 
-// The tint that a pixel takes of the four.
-fn tint_of(tints: &[u16; TINT_CODES], ranks: &[u16; TINTS], pixel: Pixel, choice: Four) -> u8
-    requires { TintCodes tints.now × TieRanks tints.now ranks.now × CodePixel pixel × Ascending choice }
-    ensures { result ≡ tint_of tints.now choice pixel }
-{
-    let first = rank_of(tints, ranks, pixel, choice.first);
-    let two = lower(first, rank_of(tints, ranks, pixel, choice.second));
-    let three = lower(two, rank_of(tints, ranks, pixel, choice.third));
-    let four = lower(three, rank_of(tints, ranks, pixel, choice.fourth));
-    (four % (RANKS as u32)) as u8
-}
+    // The tint that a pixel takes of the four.
+    fn tint_of(&self, colour: Colour) -> u8
+        ensures { result ≡ tint_of self.now.tints.codes.now self.now.four colour.pixel }
+    {
+        let first = self.rank_of(colour, self.four.first);
+        let two = lower(first, self.rank_of(colour, self.four.second));
+        let three = lower(two, self.rank_of(colour, self.four.third));
+        let four = lower(three, self.rank_of(colour, self.four.fourth));
+        (four % u32::from(RANKS)) as u8
+    }
 
-// Writes the tint of each pixel.
-fn write_tints(src: &[u8], tints: &[u16; TINT_CODES], choice: Four, dst: &mut [u8])
-    requires { TintCodes tints.now × AllCodes (two_by_two src.now) × Ascending choice × (length dst.old ≡ length (picture_of src.now)) }
-    ensures { dst.new ≡ map (tint_of tints.now choice) (picture_of src.now) }
-{
-    let mut ranks = [0u16; TINTS];
-    fill_tie_ranks(tints, &mut ranks);
-    let mut i = 0;
-    while i < dst.len() {
-        let pixel = pixel_at(src, true, i);
-        dst[i] = tint_of(tints, &ranks, pixel, choice);
-        i += 1;
+    // Writes the tint of each pixel.
+    fn write_tints(&self, picture: Picture, dst: &mut [u8])
+        requires { length dst.old ≡ length (picture_of picture.src.now) }
+        ensures { dst.new ≡ map (tint_of self.now.tints.codes.now self.now.four) (picture_of picture.entry.src.now) }
+    {
+        for (i, byte) in dst.iter_mut().enumerate() {
+            *byte = self.tint_of(picture.colour_at(i));
+        }
     }
 }

@@ -1,60 +1,62 @@
 -- `stickers::choose` meets its contract: an accepted request is searched and written, and a refused one changes nothing.
-use mathlib.Core.List.{List}
-use Prim.Native.Nat.{ℕ}
-use mathlib.Core.Path.{◌≡◌, sym, ap, ◌∙◌}
-use native.Mathlib.Omega.{arith}
-use lib.ListN.{length}
-use Rattle.refusal.specs.Answers.{said, accepted}
-use Rattle.stickers.specs.Choices.{choice_of}
+use Rattle.std.proofs.Common.{◌≡◌, Err, rules, sym, ap, ◌∙◌, arith, length, map}
+use Rattle.refusal.specs.Answers.{accepted}
+use Rattle.stickers.specs.Choices.{choice_of, tint_of}
 use Rattle.stickers.specs.Stickers.{request_says, picture_of}
 use Rattle.stickers.proofs.Best.{choice_allowed, found_ascends}
 use Rattle.stickers.proofs.Requests.{SoundRequest, request_sound, length_picture}
-use Rattle.stickers.proofs.Answers.{accepts, refuses, refuses-at}
+use Rattle.stickers.proofs.Answers.{accepts, refuses}
 use Rattle.stickers.proofs.choose.Goals as goal
-use Rattle.refusal.specs.declared.Answer.{Answer}
-use Rattle.refusal.specs.declared.Answer.TheVariants.{Done}
+use Rattle.stickers.proofs.choose.Goals.{In_ok-limit}
 
 -- What an accepted request tells.
-sound :
-    (src tints : List ℕ) (budget room limit : ℕ) (judged : Answer) → said judged ≡ request_says src tints budget room → judged ≡ Done limit
-    → SoundRequest src tints budget room limit
-sound src tints budget room limit judged is e = request_sound src tints budget room limit (sym is ∙ ap said e)
+says : (c : In_ok-limit) → request_says c.args.src.now c.args.tints.now c.args.budget (length c.args.dst.now) ≡ accepted c.in_ok-limit.limit
+says c = sym (c.in_ok-limit.ensures)
+
+sound : (c : In_ok-limit) → SoundRequest c.args.src.now c.args.tints.now c.args.budget (length c.args.dst.now) c.in_ok-limit.limit
+sound c = request_sound c.args.src.now c.args.tints.now c.args.budget (length c.args.dst.now) c.in_ok-limit.limit (says c)
+
+pub invariant_of-picture : goal.invariant_of-picture
+invariant_of-picture c =
+    let r = sound (goal.at.invariant_of-picture c).In_ok-limit in
+    record { codes = r.picture.codes; few = omega (arith, r.work.few, length_picture c.args.src.now) }
+
+pub invariant_of-tints : goal.invariant_of-tints
+invariant_of-tints c = record { small = (sound (goal.at.invariant_of-tints c).In_ok-limit).work.codes }
 
 pub search-choice-requires : goal.search-choice-requires
 search-choice-requires c =
-    let a = c.args in
-    let r = sound a.src.now a.tints.now a.budget (length a.dst.now) _ _ c.judge_request-judged.ensures c.in-Done.is in
-    let limit = r.work.limit in
-    (r.work.codes, r.picture.codes, r.work.some, omega arith, omega (arith, r.work.few, length_picture c.args.src.now))
+    let work = (sound (goal.at.search-choice-requires c).In_ok-limit).work in
+    (work.some, omega (arith, work.limit))
+
+pub of-palette-requires : goal.of-palette-requires
+of-palette-requires c =
+    found_ascends c.args.tints.now (picture_of c.args.src.now) _ (sound (goal.at.of-palette-requires c).In_ok-limit).work.some _ c.search-choice.ensures
 
 pub write_tints-requires : goal.write_tints-requires
-write_tints-requires c =
-    let a = c.args in
-    let r = sound a.src.now a.tints.now a.budget (length a.dst.now) _ _ c.judge_request-judged.ensures c.in-Done.is in
-    (r.work.codes, r.picture.codes, found_ascends c.args.tints.now (picture_of c.args.src.now) _ r.work.some _ c.search-choice.ensures, r.picture.room-is)
+write_tints-requires c = (sound (goal.at.write_tints-requires c).In_ok-limit).picture.room-is
 
-pub returns-in-Done : goal.returns-in-Done
-returns-in-Done c =
+pub returns : goal.returns
+returns c =
     let a = c.args in
     let tints = a.tints.now in
     let picture = picture_of a.src.now in
-    let says : request_says a.src.now tints a.budget (length a.dst.now) ≡ accepted c.in-Done.limit =
-    sym c.judge_request-judged.ensures ∙ ap said c.in-Done.is in
-    let work = (sound a.src.now tints a.budget (length a.dst.now) _ _ c.judge_request-judged.ensures c.in-Done.is).work in
+    let work = (sound (goal.at.returns c).In_ok-limit).work in
     let is = c.search-choice.ensures ∙ ap (choice_of tints picture) work.limit ∙ choice_allowed tints picture a.budget in
     let some = work.some in
     let limit = work.limit in
-    let meets = accepts a.src.now tints a.budget (length a.dst.now) _ _ a.dst.now _ says (omega arith) is c.write_tints.ensures in
+    let palette = c.of-palette.ensures in
+    let bytes : c.write_tints.new.dst ≡ map (tint_of tints c.search-choice.result.four) picture =
+    c.write_tints.ensures
+    ∙ ap (λ q. map (tint_of q.codes.now c.of-palette.result.four) picture) palette.tints
+    ∙ ap (λ f. map (tint_of tints f) picture) palette.four in
+    let meets = accepts a.src.now tints a.budget (length a.dst.now) _ _ a.dst.now _ (says (goal.at.returns c).In_ok-limit) (omega arith) is bytes in
     record { answer = meets.0; bytes = meets.1.0; promise = meets.1.1 }
 
-pub returns-in-Refused : goal.returns-in-Refused
-returns-in-Refused c =
+pub returns-in_err-limit : goal.returns-in_err-limit
+returns-in_err-limit c =
     let a = c.args in
-    let meets = refuses a.src.now a.tints.now a.budget (length a.dst.now) _ a.dst.now (sym c.judge_request-judged.ensures ∙ ap said c.in-Refused.is) in
-    record { answer = meets.0; bytes = meets.1.0; promise = meets.1.1 }
-
-pub returns-in-RefusedAt : goal.returns-in-RefusedAt
-returns-in-RefusedAt c =
-    let a = c.args in
-    let meets = refuses-at a.src.now a.tints.now a.budget (length a.dst.now) _ _ a.dst.now (sym c.judge_request-judged.ensures ∙ ap said c.in-RefusedAt.is) in
-    record { answer = meets.0; bytes = meets.1.0; promise = meets.1.1 }
+    let fault = c.in_err-limit.field-0.0 in
+    let is : c.from_residual.result ≡ Err fault = search rules in
+    let meets = refuses a.src.now a.tints.now a.budget (length a.dst.now) fault a.dst.now (sym (c.in_err-limit.ensures)) in
+    rw is record { answer = meets.0; bytes = meets.1.0; promise = meets.1.1 }

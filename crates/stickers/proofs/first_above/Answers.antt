@@ -1,21 +1,12 @@
--- `stickers::first_above` meets its contract. The invariant: the codes from the k-th on say what all say.
-use mathlib.Core.Path.{refl, ◌∙◌}
-use native.Mathlib.Omega.{arith}
-use borrow.Author.Tests.{lt-ltb, le-ltb}
-use Rattle.stickers.specs.Choices.{tint_codes}
-use Rattle.stickers.proofs.Requests.{codes_next, codes-above, codes_end}
+-- `stickers::first_above` meets its contract: the codes before the first that is too great are not.
+use Rattle.std.proofs.Common.{◌≤◌, ◌<◌, rules, tests}
+use Rattle.std.proofs.lemmas.Iterator.{IsFirst-from_position, YieldsList-from_slice}
+use Rattle.esrgb.specs.Depths.{greatest}
+use Rattle.stickers.proofs.Requests.{first_says}
 use Rattle.stickers.proofs.first_above.Goals as goal
-
-pub returns-then-tints-k-gt-GREATEST_CODE : goal.returns-then-tints-k-gt-GREATEST_CODE
-returns-then-tints-k-gt-GREATEST_CODE c =
-    let k = c.loop-k.k in
-    λ done len. c.loop-k.invariant.1 done len ∙ codes-above done len c.args.tints.now k (omega arith) c.if-tints-k-gt-GREATEST_CODE.true ∙ rw (lt-ltb k tint_codes (omega arith)) refl
-
-pub loop-k-preserved : goal.loop-k-preserved
-loop-k-preserved c =
-    (omega arith, λ done len. c.loop-k.invariant.1 done len ∙ codes_next done len c.args.tints.now c.loop-k.k (omega arith) c.if-tints-k-gt-GREATEST_CODE.false)
 
 pub returns : goal.returns
 returns c =
-    let k = c.loop-k.k in
-    λ done len. c.loop-k.invariant.1 done len ∙ codes_end done len c.args.tints.now k (omega arith) ∙ rw (le-ltb k tint_codes (omega arith)) refl
+    first_says c.args.tints.now c.position.result c.told-tints
+    (IsFirst-from_position _ _ _ (λ x. greatest 12 < x) (λ x. x ≤ greatest 12) c.position.ensures.ran (YieldsList-from_slice c.args.tints.now cc)
+    (λ x q k. search (rules, tests)) (λ x q k. search (rules, tests)))

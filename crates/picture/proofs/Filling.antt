@@ -1,23 +1,44 @@
 -- What the loops have written from the front of the destination, one sample or one pixel more at each turn.
 -- Assumes nothing.
-use Prim.Native.Nat.{ℕ, suc, ◌+◌, ◌*◌, ◌≤◌, ◌<◌}
+use Prim.Native.Nat.{ℕ, suc, ◌+◌, ◌*◌, ◌/◌, ◌≤◌, ◌<◌}
 use mathlib.Core.Path.{◌≡◌, refl, sym, ap, ◌∙◌}
 use mathlib.Core.Bool.{Bool, true, false}
 use mathlib.Core.List.{List, [], ◌∷◌, ◌++◌, append_assoc, append-nil, map}
 use native.Mathlib.Omega.{arith}
 use lib.ListN.{length, get_or, take, drop}
-use Rattle.numbers.proofs.Writing.{Written, written_more}
+use Rattle.numbers.proofs.Writing.{Written, written_more, written_all}
 use Rattle.samples.specs.declared.Pixel.{Pixel}
-use Rattle.samples.specs.Samples.{place, sample_bytes, bytes_of, pixel, no_pixel, write}
+use Rattle.samples.specs.Samples.{place, pixel_size, sample_count, samples_of, sample_bytes, bytes_of, pixel, no_pixel, read, write}
+use Rattle.samples.specs.Faults.{Exact}
+use Rattle.samples.proofs.Reading.{length_two, length_samples}
+use Rattle.samples.proofs.Buffers.{length-read}
 
 -- ---- places
-pub place-within : (wide : Bool) (k n len : ℕ) → k ≤ n → place wide n ≤ len → place wide k ≤ len
-place-within true k n len h l = omega arith
-place-within false k n len h l = omega arith
+place_mono : (wide : Bool) {k n : ℕ} → k ≤ n → place wide k ≤ place wide n
+place_mono true h = omega arith
+place_mono false h = omega arith
 
-pub place-least : (wide : Bool) (k : ℕ) → k ≤ place wide k
-place-least true k = omega arith
-place-least false k = omega arith
+-- ---- lengths that are exact: room for the samples of the source, and for its pixels
+room_samples :
+    (from to : Bool) (src dst : List ℕ) → Exact from to (length src) (length dst) → length dst ≡ place to (length (samples_of from src))
+room_samples true true src dst e = omega (arith, e, length_two src)
+room_samples true false src dst e = omega (arith, e, length_two src)
+room_samples false true src dst e = omega (arith, e)
+room_samples false false src dst e = omega (arith, e)
+
+pixels_end : (wide : Bool) (n : ℕ) → pixel_size wide * n ≡ place wide (3 * n)
+pixels_end true n = omega arith
+pixels_end false n = omega arith
+
+room-pixels :
+    (from to : Bool) (src dst : List ℕ) → Exact from to (length src) (length dst) → length dst ≡ place to (3 * (length src / pixel_size from))
+room-pixels from to src dst e = e.room-is ∙ pixels_end to (length src / pixel_size from)
+
+pub pixel-within :
+    (from to : Bool) (src dst after : List ℕ) (i : ℕ) → Exact from to (length src) (length dst) → length after ≡ length dst
+    → i < length src / pixel_size from → place to (3 * (i + 1)) ≤ length after
+pixel-within from to src dst after i e kept h =
+    omega (arith, room-pixels from to src dst e, place_mono to {k = 3 * (i + 1)} {n = 3 * (length src / pixel_size from)} (omega arith))
 
 -- ---- samples, each by f
 abbrev pub bytes_by : Bool → (ℕ → ℕ) → List ℕ → List ℕ
@@ -34,6 +55,16 @@ pub one_more :
 one_more wide f xs dst after k x h e put =
     written_more (bytes_by wide f) xs 0 k (place wide k) (place wide (k + 1)) dst after (sample_bytes wide x) h put
     (ap (λ y. sample_bytes wide y ++ bytes_by wide f (drop (suc k) xs)) (sym e))
+
+-- behind the last sample, all is written
+pub samples_done :
+    (from to : Bool) (f : ℕ → ℕ) (src dst after : List ℕ) (k : ℕ) → Exact from to (length src) (length dst) → length after ≡ length dst
+    → sample_count from (length src) ≤ k → Written (bytes_by to f) (samples_of from src) after (place to k) k
+    → after ≡ bytes_by to f (samples_of from src)
+samples_done from to f src dst after k e kept h =
+    let end : length (samples_of from src) ≤ k = omega (arith, length_samples from src) in
+    written_all (bytes_by to f) (samples_of from src) after (place to k) k refl end
+    (omega (arith, room_samples from to src dst e, place_mono to end))
 
 -- ---- pixels, each by f
 abbrev pub pixels_by : Bool → (Pixel → Pixel) → List Pixel → List ℕ
@@ -54,6 +85,14 @@ pub pixel-more :
 pixel-more wide f ps dst after i p h e put =
     written_more (pixels_by wide f) ps no_pixel i (place wide (3 * i)) (place wide (3 * (i + 1))) dst after (write wide (p ∷ [])) h put
     (write-more wide (f (get_or ps i no_pixel)) (map f (drop (suc i) ps)) ∙ ap (λ q. write wide (q ∷ []) ++ pixels_by wide f (drop (suc i) ps)) (sym e))
+
+pub pixels_done :
+    (from to : Bool) (f : Pixel → Pixel) (src dst after : List ℕ) (i : ℕ) → Exact from to (length src) (length dst) → length after ≡ length dst
+    → length src / pixel_size from ≤ i → Written (pixels_by to f) (read from src) after (place to (3 * i)) i
+    → after ≡ pixels_by to f (read from src)
+pixels_done from to f src dst after i e kept h =
+    written_all (pixels_by to f) (read from src) after (place to (3 * i)) i refl (omega (arith, length-read from src))
+    (omega (arith, room-pixels from to src dst e, place_mono to {k = 3 * (length src / pixel_size from)} {n = 3 * i} (omega arith)))
 
 -- three samples put one after another are a pixel
 pub three_put :

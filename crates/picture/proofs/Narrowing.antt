@@ -21,8 +21,7 @@ use Rattle.samples.specs.Samples.{two_by_two, bytes_of, pixels_of, read}
 use Rattle.samples.proofs.Reading.{length_two}
 use Rattle.samples.proofs.Buffers.{length-read, two_append, read-append}
 use Rattle.esrgb.specs.declared.Gamut.{Gamut}
-use Rattle.esrgb.specs.declared.SampleRule.TheVariants.{ToEight}
-use Rattle.esrgb.specs.HowApplied.{applied, cut_of, gamut_of, above_lowest, outside}
+use Rattle.esrgb.specs.HowApplied.{to_eight, cut_of, gamut_of, above_lowest, outside}
 use Rattle.esrgb.proofs.Scale.{Scale}
 use Rattle.esrgb.proofs.Held.{outside-clipped}
 use Rattle.picture.specs.Convert.{clipped}
@@ -76,7 +75,7 @@ bytes-append f [] ys = refl
 bytes-append f (x ∷ xs) ys = rw (bytes-append f xs ys)
 
 narrowed-append : (n : ℕ) (xs ys : List ℕ) → length xs % 6 ≡ 0 → narrowed n (xs ++ ys) ≡ narrowed n xs ++ narrowed n ys
-narrowed-append n xs ys h = rw (two_append xs ys (omega arith)) (bytes-append (applied (ToEight (cut_of n))) (two_by_two xs) (two_by_two ys))
+narrowed-append n xs ys h = rw (two_append xs ys (omega arith)) (bytes-append (to_eight (cut_of n)) (two_by_two xs) (two_by_two ys))
 
 -- The pixels from i to j of a source that holds them.
 abbrev pub block : List ℕ → ℕ → ℕ → List ℕ

@@ -1,7 +1,7 @@
 -- Each conversion has a loop that does it: samples one by one are pixels one by one, and a rule that computes a definition writes its
 -- bytes.
 -- Assumes nothing.
-use Prim.Native.Nat.{ℕ, ◌*◌, ◌/◌, ◌%◌}
+use Prim.Native.Nat.{ℕ, ◌/◌, ◌%◌}
 use mathlib.Core.Path.{◌≡◌, refl, sym, ap, ◌∙◌}
 use mathlib.Core.Bool.{Bool, true, false}
 use mathlib.Core.List.{List, [], ◌∷◌, map}
@@ -13,15 +13,12 @@ use Rattle.numbers.proofs.Counting.{count_none}
 use Rattle.samples.specs.declared.Pixel.{Pixel}
 use Rattle.samples.specs.declared.Coding.{Coding}
 use Rattle.samples.specs.declared.Coding.TheVariants.{Bytes, Codes}
-use Rattle.samples.specs.Samples.{place, pixel_size, samples_of, sample_bytes, bytes_of, no_pixel, pixels_of, samples_in, read, write}
-use Rattle.samples.specs.Faults.{Exact}
+use Rattle.samples.specs.Samples.{pixel_size, samples_of, sample_bytes, bytes_of, no_pixel, pixels_of, samples_in, read, write}
 use Rattle.samples.proofs.Reading.{length_two}
-use Rattle.samples.proofs.Buffers.{length-read}
 use Rattle.esrgb.specs.declared.Depth.{Depth}
-use Rattle.esrgb.specs.declared.SampleRule.{SampleRule}
 use Rattle.esrgb.specs.Depths.{offered, bits, greatest}
 use Rattle.esrgb.specs.Codes.{from_srgb, srgb_value, change_depth}
-use Rattle.esrgb.specs.HowApplied.{applied, Computes, line_of, change_of}
+use Rattle.esrgb.specs.HowApplied.{Computes, line_of, change_of}
 use Rattle.esrgb.proofs.Scale.{scale, offered-bits}
 use Rattle.esrgb.proofs.Rules.{from_srgb_computes, to_srgb_computes, change_computes}
 use Rattle.picture.specs.declared.Conversion.{Conversion}
@@ -34,27 +31,11 @@ use Rattle.picture.specs.Forms.{coding_of}
 use Rattle.picture.specs.Convert.{each, none, row, source, offers, converted}
 use Rattle.picture.specs.HowConverted.{done_by, Plans}
 
--- ---- lengths
-pub room_samples :
-    (from to : Bool) (src dst : List ℕ) → Exact from to (length src) (length dst) → length dst ≡ place to (length (samples_of from src))
-room_samples true true src dst e = omega (arith, e, length_two src)
-room_samples true false src dst e = omega (arith, e, length_two src)
-room_samples false true src dst e = omega (arith, e)
-room_samples false false src dst e = omega (arith, e)
-
-pixels_end : (wide : Bool) (n : ℕ) → pixel_size wide * n ≡ place wide (3 * n)
-pixels_end true n = omega arith
-pixels_end false n = omega arith
-
-pub room-pixels :
-    (from to : Bool) (src dst : List ℕ) → length dst ≡ pixel_size to * (length src / pixel_size from) → length dst ≡ place to (3 * length (read from src))
-room-pixels from to src dst e = rw (length-read from src) (e ∙ pixels_end to (length src / pixel_size from))
-
+-- ---- bytes
 whole_samples : (wide : Bool) (src : List ℕ) → length src % pixel_size wide ≡ 0 → length (samples_of wide src) % 3 ≡ 0
 whole_samples true src h = omega (arith, length_two src)
 whole_samples false src h = h
 
--- ---- bytes
 each_sample : (f : ℕ → ℕ) (xs : List ℕ) → length xs % 3 ≡ 0 → samples_in (map (each f) (pixels_of xs)) ≡ map f xs
 each_sample f [] h = refl
 each_sample f (a ∷ []) h = absurd (omega arith)
@@ -72,9 +53,9 @@ same_bytes true x y h =
     cc
 same_bytes false x y h = let low : x % 256 ≡ y % 256 = omega arith in cc
 
-same_samples : (wide : Bool) (rule : SampleRule) (f : ℕ → ℕ) (xs : List ℕ) → Computes rule f → bytes_of wide (map (applied rule) xs) ≡ bytes_of wide (map f xs)
+same_samples : (wide : Bool) (rule f : ℕ → ℕ) (xs : List ℕ) → Computes rule f → bytes_of wide (map rule xs) ≡ bytes_of wide (map f xs)
 same_samples wide rule f [] h = refl
-same_samples wide rule f (x ∷ xs) h = rw (same_bytes wide (applied rule x) (f x) (h x), same_samples wide rule f xs h)
+same_samples wide rule f (x ∷ xs) h = rw (same_bytes wide (rule x) (f x) (h x), same_samples wide rule f xs h)
 
 by_pixels :
     (from to : Bool) (f : ℕ → ℕ) (src : List ℕ) → length src % pixel_size from ≡ 0

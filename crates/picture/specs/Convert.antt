@@ -1,9 +1,10 @@
 -- Convert (rules, section 4): what it answers, every byte that it leaves in the destination, and how many pixels it clips, for any source
 -- and any destination.
 -- Assumes nothing.
-use Rattle.std.specs.Prelude.{ℕ, ◌*◌, Bool, false, ◌&&◌, ◌||◌, List, map, length}
+use Rattle.std.specs.Prelude.{ℕ, ◌*◌, Bool, false, ◌&&◌, ◌||◌, List, map, length, Result, Ok, Err}
 use Rattle.numbers.specs.Counting.{how_many}
-use Rattle.refusal.specs.Answers.{Said, leaves}
+use Rattle.refusal.specs.declared.Fault.{Fault}
+use Rattle.refusal.specs.Answers.{Said, said_by, leaves}
 use Rattle.samples.specs.declared.Pixel.{Pixel}
 use Rattle.samples.specs.Samples.{pixel_size, pixel, read, write}
 use Rattle.samples.specs.Faults.{source_says}
@@ -13,6 +14,7 @@ use Rattle.esycc.specs.Esycc.{to_esycc, from_esycc}
 use Rattle.esycc.specs.Sycc.{to_sycc, from_sycc}
 use Rattle.picture.specs.declared.Conversion.{Conversion}
 use Rattle.picture.specs.declared.Conversion.TheVariants.{FromSrgb, ToSrgb, ChangeDepth, ToLumaChroma, FromLumaChroma, ToEsycc, FromEsycc, ToSycc, FromSycc}
+use Rattle.picture.specs.declared.Converted.{Converted}
 use Rattle.picture.specs.Forms.{Form, srgb, esrgb, luma_chroma, esycc, sycc, coding_of, wide_form, pixels_in, offers_form}
 
 -- Rule 4.1, a row for each conversion: what it reads, what it writes, what it does to one pixel, and which pixels it counts as clipped.
@@ -78,3 +80,11 @@ clipped_in c src = how_many (row c).clips (read (wide_form (source c)) src)
 
 abbrev pub convert_clips : Conversion → List ℕ → ℕ → ℕ
 convert_clips c src room = leaves (convert_says c src room) (clipped_in c src) 0
+
+-- What Convert's result says, and how many clipped pixels it gives.
+abbrev pub converted_said : Result Converted Fault → Said
+converted_said = said_by (λ c. c.pixels)
+
+abbrev pub clips_of : Result Converted Fault → ℕ
+clips_of (Ok c) = c.clipped
+clips_of (Err f) = 0

@@ -1,15 +1,16 @@
 -- How the code converts: what it plans once it has looked at a conversion's depths, and what each of its loops writes.
 -- Assumes nothing.
-use Rattle.std.specs.Prelude.{ℕ, ◌%◌, ◌≡◌, Bool, true, false, ◌||◌, List, [], ◌∷◌, map, length}
+use Rattle.std.specs.Prelude.{ℕ, ◌%◌, ◌≡◌, Bool, true, false, ◌||◌, List, [], ◌∷◌, map, length, Result, Ok, Err}
 use Rattle.numbers.specs.Counting.{how_many}
+use Rattle.refusal.specs.declared.Refusal.{Refusal}
+use Rattle.refusal.specs.declared.Refusal.TheVariants.{DepthNotOffered}
 use Rattle.samples.specs.declared.Pixel.{Pixel}
 use Rattle.samples.specs.declared.Coding.{Coding}
 use Rattle.samples.specs.Samples.{pixel_size, samples_of, bytes_of, read}
 use Rattle.samples.specs.Faults.{wide_coding}
 use Rattle.esrgb.specs.Depths.{bits}
 use Rattle.esrgb.specs.declared.Gamut.{Gamut}
-use Rattle.esrgb.specs.declared.SampleRule.TheVariants as sample
-use Rattle.esrgb.specs.HowApplied.{applied, rule_of, cut_of, outside}
+use Rattle.esrgb.specs.HowApplied.{affine, to_eight, changed, cut_of, outside}
 use Rattle.picture.specs.declared.Conversion.{Conversion}
 use Rattle.picture.specs.declared.Conversion.TheVariants.{ToLumaChroma, FromLumaChroma, ToEsycc, FromEsycc, ToSycc, FromSycc}
 use Rattle.picture.specs.declared.PixelRule.{PixelRule}
@@ -18,7 +19,6 @@ use Rattle.picture.specs.declared.Sides.{Sides}
 use Rattle.picture.specs.declared.Work.{Work}
 use Rattle.picture.specs.declared.Work.TheVariants.{Widen, Narrow, Change, Pixels}
 use Rattle.picture.specs.declared.Plan.{Plan}
-use Rattle.picture.specs.declared.Plan.TheVariants.{Run, NotOffered}
 use Rattle.picture.specs.Forms.{coding_of, wide_form}
 use Rattle.picture.specs.Convert.{source, target, pixel_of, offers, converted, clipped, clipped_in}
 
@@ -35,13 +35,17 @@ done_by rule.FromSycc n = FromSycc n
 abbrev pub pixel_applied : PixelRule → ℕ → Pixel → Pixel
 pixel_applied rule n = pixel_of (done_by rule n)
 
+-- Whatever a call gives for a pixel, f gives it too.
+abbrev pub Gives : (Pixel → Pixel → Type 0) → (Pixel → Pixel) → Type 0
+Gives post f = (p q : Pixel) → post p q → q ≡ f p
+
 -- What a conversion reads, and whether it writes wide samples.
 abbrev pub sides_of : Conversion → Sides
 sides_of c = record { reads = coding_of (source c); wide = wide_form (target c) }
 
 -- To sRGB, the bytes of some codes.
 abbrev pub narrowed : ℕ → List ℕ → List ℕ
-narrowed n src = bytes_of false (map (applied (sample.ToEight (cut_of n))) (samples_of true src))
+narrowed n src = bytes_of false (map (to_eight (cut_of n)) (samples_of true src))
 
 -- Is one of some codes outside of what sRGB holds? And is a pixel, in one of its channels?
 unfoldable pub some_outside : Gamut → List ℕ → Bool
@@ -69,9 +73,9 @@ writes_wide (Change change) = true
 writes_wide (Pixels rule depth) = wide_form (target (done_by rule (bits depth)))
 
 abbrev pub made : Work → List ℕ → List ℕ
-made (Widen line) src = bytes_of true (map (applied (sample.Affine line)) (samples_of false src))
+made (Widen line) src = bytes_of true (map (affine line) (samples_of false src))
 made (Narrow depth) src = narrowed (bits depth) src
-made (Change change) src = bytes_of true (map (applied (rule_of change)) (samples_of true src))
+made (Change change) src = bytes_of true (map (changed change) (samples_of true src))
 made (Pixels rule depth) src = converted (done_by rule (bits depth)) src
 
 -- How many clipped pixels it counts.
@@ -90,6 +94,7 @@ pub record Plans (c : Conversion) (coding : Coding) (work : Work) : Type 0 where
   pub makes : (src : List ℕ) → length src % pixel_size (wide_coding coding) ≡ 0 → made work src ≡ converted c src
   pub counts : (src : List ℕ) → counted work src ≡ clipped_in c src
 
-abbrev pub Planned : Conversion → Plan → Type 0
-Planned c (Run coding work) = Plans c coding work
-Planned c NotOffered = offers c ≡ false
+-- It is found, or a depth is refused.
+abbrev pub Planned : Conversion → Result Plan Refusal → Type 0
+Planned c (Ok plan) = Plans c plan.coding plan.work
+Planned c (Err r) = (offers c ≡ false) × (r ≡ DepthNotOffered)

@@ -35,7 +35,7 @@ overflow_add-count c =
     let a = c.args in
     let ps = read true a.src.now in
     let end : length a.src.now / c.pixel_size.result ≡ length ps = ap (λ size. length a.src.now / size) c.pixel_size.ensures ∙ sym (length-read true a.src.now) in
-    let next = more a.gamut ps _ c.loop-j.count c.loop-j.j _ _ (omega arith) c.is_clipped.ensures c.pixel_at-p.ensures c.loop-j.invariant.1 in
+    let next = more a.gamut ps _ c.loop-j.count c.loop-j.j _ _ (omega arith) c.is_clipped.ensures c.pixel_at-p.ensures c.loop-j.invariant in
     record { fits = omega (arith, next, count_most (pixel_outside a.gamut) ps, c.requires) }
 
 pub loop-j-preserved : goal.loop-j-preserved
@@ -43,7 +43,7 @@ loop-j-preserved c =
     let a = c.args in
     let ps = read true a.src.now in
     let end : length a.src.now / c.pixel_size.result ≡ length ps = ap (λ size. length a.src.now / size) c.pixel_size.ensures ∙ sym (length-read true a.src.now) in
-    (omega arith, more a.gamut ps _ c.loop-j.count c.loop-j.j _ _ (omega arith) c.is_clipped.ensures c.pixel_at-p.ensures c.loop-j.invariant.1)
+    more a.gamut ps _ c.loop-j.count c.loop-j.j _ _ (omega arith) c.is_clipped.ensures c.pixel_at-p.ensures c.loop-j.invariant
 
 pub returns : goal.returns
 unfolding how_many
@@ -52,4 +52,4 @@ returns c =
     let ps = read true a.src.now in
     let end : length a.src.now / c.pixel_size.result ≡ length ps = ap (λ size. length a.src.now / size) c.pixel_size.ensures ∙ sym (length-read true a.src.now) in
     let rest : drop c.loop-j.j ps ≡ [] = drop_of_length-le ps {i = c.loop-j.j} (omega arith) in
-    sym (c.loop-j.invariant.1 ∙ rw rest (omega arith))
+    sym (c.loop-j.invariant ∙ rw rest (omega arith))

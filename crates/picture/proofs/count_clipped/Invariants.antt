@@ -1,5 +1,5 @@
 -- `picture::count_clipped` meets its contract. The invariant: the count so far, and that of the pixels left, is the count of all.
-use Prim.Native.Nat.{◌+◌, ◌-◌, ◌≤◌}
+use Prim.Native.Nat.{◌+◌}
 use mathlib.Core.Path.{◌≡◌}
 use mathlib.Core.Bool.{true}
 use lib.ListN.{drop}
@@ -10,7 +10,4 @@ use Rattle.picture.proofs.count_clipped.Given as goal
 
 abbrev pub invariant-loop-j : goal.invariant-loop-j
 invariant-loop-j l =
-    (l.j ≤ l.end) × (how_many (pixel_outside l.gamut) (read true l.src) ≡ l.count + how_many (pixel_outside l.gamut) (drop l.j (read true l.src)))
-
-abbrev pub decreases-loop-j : goal.decreases-loop-j
-decreases-loop-j l = l.end - l.j
+    (how_many (pixel_outside l.gamut) (read true l.src) ≡ l.count + how_many (pixel_outside l.gamut) (drop l.j (read true l.src)))

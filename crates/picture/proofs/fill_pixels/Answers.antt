@@ -1,33 +1,27 @@
--- `picture::fill_pixels` meets its contract: the end is the number of pixels, and the destination has room for them all.
-use mathlib.Core.Path.{◌≡◌, refl, sym, ap, ◌∙◌}
-use Prim.Native.Nat.{ℕ, ◌+◌, ◌*◌, ◌/◌, ◌≤◌}
-use native.Mathlib.Nat.{le_refl}
-use native.Mathlib.Omega.{arith}
+-- `picture::fill_pixels` meets its contract: each pixel has room in the destination, and at the end all are written.
+use Prim.Native.Nat.{◌<◌}
+use mathlib.Core.Path.{sym, ◌∙◌}
 use lib.ListN.{length}
-use Rattle.samples.specs.Samples.{place, read}
+use Rattle.samples.specs.Samples.{read}
 use Rattle.samples.proofs.Buffers.{length-read}
-use Rattle.esrgb.specs.Depths.{bits}
-use Rattle.numbers.proofs.Writing.{written_all}
-use Rattle.picture.specs.HowConverted.{pixel_applied}
-use Rattle.picture.proofs.Filling.{place-within, pixels_by}
+use Rattle.picture.proofs.Filling.{pixel-within, pixel-more, pixels_done}
 use Rattle.picture.proofs.fill_pixels.Goals as goal
 
 pub put_pixel-requires : goal.put_pixel-requires
-put_pixel-requires c =
+put_pixel-requires g c =
     let a = c.args in
-    let end : ℕ = length a.src.now / c.pixel_size.result in
-    let count : end ≡ length (read a.wide_in a.src.now) =
-    ap (λ size. length a.src.now / size) c.pixel_size.ensures ∙ sym (length-read a.wide_in a.src.now) in
-    let room : place a.wide_out (3 * end) ≤ length c.loop-i.dst = rw (count, c.loop-i.auto.dst, c.requires) (le_refl _) in
-    place-within a.wide_out (3 * (c.loop-i.i + 1)) (3 * end) (length c.loop-i.dst) (omega arith) room
+    pixel-within a.wide_in a.wide_out a.src.now a.dst.now c.loop-i.dst c.loop-i.i c.requires.room c.loop-i.auto.dst
+    (rw (sym c.pixel_size.ensures) c.loop-i-test.true)
+
+pub loop-i-preserved : goal.loop-i-preserved
+loop-i-preserved g c f gives =
+    let a = c.args in
+    let ps = read a.wide_in a.src.now in
+    let inside : c.loop-i.i < length ps = rw (length-read a.wide_in a.src.now, sym c.pixel_size.ensures) c.loop-i-test.true in
+    pixel-more a.wide_out f ps c.loop-i.dst c.put_pixel.new.dst c.loop-i.i _ inside (gives _ _ c.convert.ensures ∙ rw c.pixel_at-p.ensures) c.put_pixel.ensures (c.loop-i.invariant f gives)
 
 pub returns : goal.returns
-returns c =
+returns g c f gives =
     let a = c.args in
-    let end : ℕ = length a.src.now / c.pixel_size.result in
-    let count : end ≡ length (read a.wide_in a.src.now) =
-    ap (λ size. length a.src.now / size) c.pixel_size.ensures ∙ sym (length-read a.wide_in a.src.now) in
-    written_all (pixels_by a.wide_out (pixel_applied a.rule (bits a.depth))) (read a.wide_in a.src.now) c.loop-i.dst (place a.wide_out (3 * c.loop-i.i)) c.loop-i.i
-    refl (omega arith)
-    (rw (c.loop-i.auto.dst, c.requires, ← count) (place-within a.wide_out (3 * end) (3 * c.loop-i.i) _ (omega arith) (le_refl _)))
-    c.loop-i.invariant.2
+    pixels_done a.wide_in a.wide_out f a.src.now a.dst.now c.loop-i.dst c.loop-i.i c.requires.room c.loop-i.auto.dst
+    (rw (sym c.pixel_size.ensures) c.loop-i-test.false) (c.loop-i.invariant f gives)

@@ -1,30 +1,21 @@
--- `picture::fill_samples` meets its contract: the end is the number of samples, and the destination has room for them all.
-use mathlib.Core.Path.{◌≡◌, refl, sym, ◌∙◌}
-use Prim.Native.Nat.{◌+◌, ◌≤◌}
-use native.Mathlib.Nat.{le_refl}
+-- `picture::fill_samples` meets its contract: a sample more at each turn, and all of them at the end.
+use Prim.Native.Nat.{◌<◌}
 use native.Mathlib.Omega.{arith}
 use lib.ListN.{length}
-use Rattle.samples.specs.Samples.{place, samples_of}
+use Rattle.samples.specs.Samples.{samples_of}
 use Rattle.samples.proofs.Reading.{length_samples}
-use Rattle.esrgb.specs.HowApplied.{applied}
-use Rattle.numbers.proofs.Writing.{written_all}
-use Rattle.picture.proofs.Filling.{place-within, bytes_by}
+use Rattle.picture.proofs.Filling.{one_more, samples_done}
 use Rattle.picture.proofs.fill_samples.Goals as goal
 
-pub put-requires : goal.put-requires
-put-requires c =
+pub loop-k-preserved : goal.loop-k-preserved
+loop-k-preserved g c =
     let a = c.args in
-    let count : c.sample_count-end.result ≡ length (samples_of a.wide_in a.src.now) =
-    c.sample_count-end.ensures ∙ sym (length_samples a.wide_in a.src.now) in
-    let room : place a.wide_out c.sample_count-end.result ≤ length c.loop-k.dst = rw (count, c.loop-k.auto.dst, c.requires) (le_refl _) in
-    place-within a.wide_out (c.loop-k.k + 1) c.sample_count-end.result (length c.loop-k.dst) (omega arith) room
+    let xs = samples_of a.wide_in a.src.now in
+    let inside : c.loop-k.k < length xs = omega (arith, c.sample_count-k-end.ensures, length_samples a.wide_in a.src.now) in
+    one_more a.wide_out (g.R.SampleRule.applied a.rule) xs c.loop-k.dst c.put.new.dst c.loop-k.k _ inside (rw (c.apply.ensures, c.sample-x.ensures)) c.put.ensures c.loop-k.invariant
 
 pub returns : goal.returns
-returns c =
+returns g c =
     let a = c.args in
-    let count : c.sample_count-end.result ≡ length (samples_of a.wide_in a.src.now) =
-    c.sample_count-end.ensures ∙ sym (length_samples a.wide_in a.src.now) in
-    written_all (bytes_by a.wide_out (applied a.rule)) (samples_of a.wide_in a.src.now) c.loop-k.dst (place a.wide_out c.loop-k.k) c.loop-k.k
-    refl (omega arith)
-    (rw (c.loop-k.auto.dst, c.requires, ← count) (place-within a.wide_out c.sample_count-end.result c.loop-k.k _ (omega arith) (le_refl _)))
-    c.loop-k.invariant.2
+    samples_done a.wide_in a.wide_out (g.R.SampleRule.applied a.rule) a.src.now a.dst.now c.loop-k.dst c.loop-k.k c.requires c.loop-k.auto.dst
+    (omega (arith, c.sample_count-k-end.ensures)) c.loop-k.invariant

@@ -5,10 +5,11 @@
 #![tactic(auto)]
 
 ghost use Rattle.refusal.specs.Answers.{said};
+ghost use Rattle.picture.specs.Convert.{converted_said, clips_of};
 ghost use Rattle.roundtrip.specs.Programs.{Trip, BothRuns};
 
 use picture::{Conversion, Converted};
-use refusal::Answer;
+use refusal::{Answer, Fault};
 
 // The answers of the two calls.
 #[derive(Clone, Copy)]
@@ -22,8 +23,8 @@ pub struct TripAnswers {
 pub fn round_trip(depth: u32, codes: &[u8], ycc: &mut [u8], back: &mut [u8]) -> TripAnswers
     ensures { Trip depth codes.now ycc.old ycc.new back.old back.new (said result.there) (said result.again) }
 {
-    let there = picture::convert(Conversion::ToLumaChroma { depth }, codes, ycc).answer;
-    let again = picture::convert(Conversion::FromLumaChroma { depth }, ycc, back).answer;
+    let there = picture::convert(Conversion::ToLumaChroma { depth }, codes, ycc).map(|c| c.pixels);
+    let again = picture::convert(Conversion::FromLumaChroma { depth }, ycc, back).map(|c| c.pixels);
     TripAnswers { there, again }
 }
 
@@ -33,8 +34,8 @@ pub struct RunAnswers {
     pub made: Answer,
     pub there: Answer,
     pub again: Answer,
-    pub direct: Converted,
-    pub round: Converted,
+    pub direct: Result<Converted, Fault>,
+    pub round: Result<Converted, Fault>,
 }
 
 // Both runs of an sRGB picture: to codes, the codes through luma and chroma and back, and then to 8 bits
@@ -48,19 +49,17 @@ pub fn both_runs(
     direct: &mut [u8],
     round: &mut [u8],
 ) -> RunAnswers
-    ensures { BothRuns depth picture.now codes.old codes.new ycc.old ycc.new back.old back.new direct.old direct.new round.old round.new (said result.made) (said result.there) (said result.again) (said result.direct.answer) (said result.round.answer) result.direct.clipped result.round.clipped }
+    ensures { BothRuns depth picture.now codes.old codes.new ycc.old ycc.new back.old back.new direct.old direct.new round.old round.new (said result.made) (said result.there) (said result.again) (converted_said result.direct) (converted_said result.round) (clips_of result.direct) (clips_of result.round) }
 {
-    let made = picture::convert(Conversion::FromSrgb { depth }, picture, codes).answer;
-    let trip = round_trip(depth, codes, ycc, back);
-    let there = trip.there;
-    let again = trip.again;
-    let first = picture::convert(Conversion::ToSrgb { depth }, codes, direct);
-    let second = picture::convert(Conversion::ToSrgb { depth }, back, round);
+    let made = picture::convert(Conversion::FromSrgb { depth }, picture, codes).map(|c| c.pixels);
+    let TripAnswers { there, again } = round_trip(depth, codes, ycc, back);
+    let direct = picture::convert(Conversion::ToSrgb { depth }, codes, direct);
+    let round = picture::convert(Conversion::ToSrgb { depth }, back, round);
     RunAnswers {
         made,
         there,
         again,
-        direct: first,
-        round: second,
+        direct,
+        round,
     }
 }

@@ -1,9 +1,8 @@
 -- `roundtrip::round_trip` meets its contract: Convert's two clauses at each call are what demand 3 takes.
+use Rattle.std.proofs.Common.{rules}
 use Rattle.roundtrip.proofs.Programs.{trip}
 use Rattle.roundtrip.proofs.round_trip.Goals as goal
 
 pub returns : goal.returns
 returns c =
-    let there = c.convert-there in
-    let again = c.convert-again in
-    trip (record { says = there.ensures.answer; bytes = there.ensures.bytes }) (record { says = again.ensures.answer; bytes = again.ensures.bytes }) there.auto.dst
+    trip (record { says = search rules; bytes = c.convert.ensures.bytes }) (record { says = search rules; bytes = c.convert-2.ensures.bytes }) c.convert.auto.dst

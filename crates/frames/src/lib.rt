@@ -35,7 +35,8 @@ pub fn step_from(file: &[u8], number: usize) -> Visit
     Visit { found, next }
 }
 
-// A walk over the frames of a spool: the file, and the number of the frame to come.
+// A walk over the frames of a spool: the file, and the number of the frame to come. It is no Iterator, since it has no
+// end: a frame that is refused is a step like any other, and so is the refusal behind the last frame.
 #[derive(Clone, Copy)]
 pub struct Frames<'a> {
     pub file: &'a [u8],
@@ -75,8 +76,8 @@ pub fn step<'a>(frames: Frames<'a>) -> Stepped<'a>
             found: visit.found,
         },
         rest: Frames {
-            file: frames.file,
             next: visit.next,
+            ..frames
         },
     }
 }

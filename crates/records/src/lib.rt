@@ -54,7 +54,8 @@ pub struct Header {
     pub size: u16,
 }
 
-// A frame's record, its numbers in the order in which they stand in the file. C lends records of this shape.
+// A frame's record, its numbers in the order in which they stand in the file. The C interface lends records of this
+// shape.
 #[repr(C)]
 #[derive(Clone, Copy, Default)]
 pub struct FrameRecord {
@@ -74,7 +75,7 @@ pub struct StridedRecord {
     pub stride: u32,
 }
 
-// The record of zeros.
+// The record of zeros, which stands where a frame is refused.
 pub fn no_record() -> StridedRecord
     ensures { result ≡ no_record }
 {
@@ -171,7 +172,7 @@ fn size_in(layout: Layout, bytes: &[u8]) -> u16
     }
 }
 
-// The header at the start of some bytes, or nothing if they are too few for one.
+// The header at the start of some bytes, or nothing if they end before it does.
 #[tactic(auto, unfolding(crate::specs::Layout::header_in))]
 pub fn read_header(layout: Layout, bytes: &[u8]) -> Option<Header>
     ensures { ReadsHeader layout bytes.now result }
@@ -227,7 +228,7 @@ fn record_in(layout: Layout, bytes: &[u8]) -> StridedRecord
     StridedRecord { frame, stride }
 }
 
-// The record at a place of some bytes, or nothing if it does not end with them or before.
+// The record at a place of some bytes, or nothing if they end before it does.
 pub fn read_record(layout: Layout, bytes: &[u8], at: usize) -> Option<StridedRecord>
     ensures { ReadsRecord layout bytes.now at result }
 {
@@ -336,7 +337,7 @@ fn is_deep(bits: u8) -> bool
     Depth::try_from(bits as u32).is_ok()
 }
 
-// How a frame's colours are coded. A record has the number.
+// How a frame's colours are coded. A record has the number itself, since a file and a caller in C may say any.
 enum Kind {
     Srgb = 1,
     Esrgb = 2,

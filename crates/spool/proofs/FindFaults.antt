@@ -20,7 +20,7 @@ use Rattle.records.specs.Layout.{header_size, record_size, layout_of, no_record,
 use Rattle.records.specs.Pixels.{span_bytes}
 use Rattle.records.specs.Faults.{record_fault, stride_fault}
 use Rattle.spool.specs.Open.{open_fault, open_said, open_says}
-use Rattle.spool.specs.Find.{Found, FindSaid, finds, refuses_frame, find_by, record_at, pixels_outside, pixel_end, frame_fault, frame_says, find_fault, find_said, says_of, find_says, pixels_start, pixels_length, frame_pixels}
+use Rattle.spool.specs.Find.{FindSaid, finds, refuses_frame, find_by, record_at, pixels_outside, pixel_end, frame_fault, frame_says, find_fault, says_of, find_says, pixels_start, pixels_length, frame_pixels}
 use Rattle.numbers.proofs.Booleans.{or_false}
 use Rattle.spool.proofs.OpenFaults.{open_file, opens-sound}
 
@@ -118,11 +118,11 @@ whole gapsTaken file k s e =
       is-sound = rw found.1 (sound_record gapsTaken file (record_at file k) second.1);
     }
 
--- What is known once the answer of Find is taken apart.
-pub found_whole : (gapsTaken : Bool) (file : List ℕ) (k : ℕ) {f : Found} {s : StridedRecord} → f ≡ Ok s → find_said f ≡ says_of gapsTaken file k → Whole gapsTaken file k s
-found_whole gapsTaken file k {f} {s} e said = whole gapsTaken file k s (ap find_said (sym e) ∙ said)
+-- The pixels of a frame that is found end with the file at the latest.
+pub pixels_inside : (file : List ℕ) (k : ℕ) {s : StridedRecord} → finds s ≡ find_says file k → s.frame.offset + span_bytes s ≤ length file
+pixels_inside file k {s} said = (whole true file k s said).is-sound.inside
 
--- Where the pixels of a frame that is found lie.
+-- Where they lie.
 pub pixels-there : (file : List ℕ) (k n : ℕ) {s : StridedRecord} → find_says file k ≡ finds s → n ≡ span_bytes s
     → take (s.frame.offset + n - s.frame.offset) (drop s.frame.offset file) ≡ frame_pixels file k
 pixels-there file k n {s} said e =

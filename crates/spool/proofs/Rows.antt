@@ -13,6 +13,7 @@ use Rattle.records.specs.declared.StridedRecord.{StridedRecord}
 use Rattle.records.specs.Pixels.{row_bytes, span_bytes}
 use Rattle.spool.specs.declared.Extent.{Extent}
 use Rattle.spool.specs.Find.{FindSaid, finds, find_says, pixel_end}
+use Rattle.spool.proofs.FindFaults.{pixels_inside}
 use Rattle.spool.specs.Rows.{row_extent, row_of_said, extent_of, frame_row}
 
 module _ (s : StridedRecord) (j : ℕ) where
@@ -30,6 +31,10 @@ module _ (s : StridedRecord) (j : ℕ) where
     by_test : (b : Bool) → ltb j s.frame.height ≡ b → (row_extent s j).start + (row_extent s j).length ≤ length file
     by_test true e = let within = row_within (ltb-true _ _ e) in rw e (omega (arith, inside, within))
     by_test false e = rw e (omega arith)
+
+-- A row of a frame that is found ends with the file at the latest.
+pub found_row_inside : (file : List ℕ) (k j : ℕ) {s : StridedRecord} → finds s ≡ find_says file k → (row_extent s j).start + (row_extent s j).length ≤ length file
+found_row_inside file k j {s} said = row_inside s j file (pixels_inside file k said)
 
 -- The row of a frame that is found.
 pub row-there : (file : List ℕ) (k j : ℕ) {s : StridedRecord} {e : Extent} → find_says file k ≡ finds s → e ≡ row_extent s j

@@ -111,6 +111,7 @@ pub fn find(file: &[u8], number: usize) -> Found
 
 // A frame's pixels, where they lie in the lent file, gaps included. For a frame that is refused, that is
 // the empty part at the file's start.
+#[tactic(auto, using(crate::proofs::FindFaults::pixels_inside))]
 pub fn pixels(file: &[u8], number: usize) -> &[u8]
     ensures { IsPixels file.entry number result }
 {
@@ -122,7 +123,7 @@ pub fn pixels(file: &[u8], number: usize) -> &[u8]
     &file[start..end]
 }
 
-// A part of a file: where it starts, and how many bytes it has.
+// A part of a file: where it starts, and how many bytes it has. The C interface says these two, so it is no Range.
 #[derive(Clone, Copy)]
 pub struct Extent {
     pub start: usize,
@@ -147,6 +148,7 @@ pub fn row_extent(strided: StridedRecord, row: usize) -> Extent
 
 // A row of a frame, where it lies in the lent file. One that is not there is the empty part at the
 // file's start.
+#[tactic(auto, using(crate::proofs::Rows::found_row_inside))]
 pub fn row(file: &[u8], number: usize, row: usize) -> &[u8]
     ensures { IsRow file.entry number row result }
 {

@@ -91,6 +91,9 @@ pub fn with_offset(offset: u32, frame: FrameRecord) -> FrameRecord
 
 // ---- the layouts
 
+// What they differ in has a match each, with the numbers beside the layout's name: one function that is given the two
+// numbers would be no plainer.
+
 pub fn other_layout(layout: Layout) -> Layout
     ensures { result ≡ other_layout layout }
 {

@@ -5,55 +5,50 @@ use native.Mathlib.Nat.{add-zero, add_assoc}
 use native.Mathlib.Omega.{arith}
 use mathlib.Core.Path.{◌≡◌, refl, sym, ◌∙◌}
 use mathlib.Core.Bool.{Bool, true, false}
+use Rattle.std.specs.Prelude.{Option, None, Some}
 use mathlib.Core.List.{List, [], ◌∷◌}
 use lib.Dec.{ltb}
 use borrow.Author.Tests.{lt-ltb, le-ltb, ltb-true}
-use Rattle.refusal.specs.Answers.{Verdict, sound, faulty, Said, accepted, refused, refused_at}
+use Rattle.refusal.specs.declared.Fault.{Fault}
+use Rattle.refusal.specs.Refusals.{number_of}
+use Rattle.refusal.specs.Answers.{Verdict, sound, faulty, Said, refused_at, at_place, fault_said}
 use Rattle.records.specs.declared.FrameRecord.{FrameRecord}
 use Rattle.records.specs.declared.Layout.{Layout}
 use Rattle.records.specs.Pixels.{pixel_bytes}
 use Rattle.records.specs.Faults.{record_fault}
 use Rattle.layout.specs.LayOut.{length_limit, all_pixels, records_say}
-use Rattle.layout.specs.HowLaidOut.{grown, record_written, walked}
+use Rattle.layout.specs.HowLaidOut.{summed, walked, stopped}
 
 -- A pass that has refused goes on as it is.
-pub stays_refused : (l : Layout) (rs : List FrameRecord) (i : ℕ) (w : Bool) (n : ℕ) (d : List ℕ) → walked rs i (record { layout = l; writing = w; says = refused n; bytes = d }) ≡ record { layout = l; writing = w; says = refused n; bytes = d }
+pub stays_stopped : (l : Layout) (rs : List FrameRecord) (i n : ℕ) (place : Option ℕ) (d : List ℕ) → walked l rs i (stopped (at_place n place) d) ≡ stopped (at_place n place) d
 unfolding walked
-stays_refused l [] i w n d = refl
-stays_refused l (r ∷ rs) i w n d = stays_refused l rs (i + 1) w n d
+stays_stopped l [] i n place d = refl
+stays_stopped l (r ∷ rs) i n None d = stays_stopped l rs (i + 1) n None d
+stays_stopped l (r ∷ rs) i n (Some at) d = stays_stopped l rs (i + 1) n (Some at) d
 
-pub stays_refused_at : (l : Layout) (rs : List FrameRecord) (i : ℕ) (w : Bool) (n at : ℕ) (d : List ℕ) → walked rs i (record { layout = l; writing = w; says = refused_at n at; bytes = d }) ≡ record { layout = l; writing = w; says = refused_at n at; bytes = d }
-unfolding walked
-stays_refused_at l [] i w n at d = refl
-stays_refused_at l (r ∷ rs) i w n at d = stays_refused_at l rs (i + 1) w n at d
+pub stays : (l : Layout) (rs : List FrameRecord) (i : ℕ) (f : Fault) (d : List ℕ) → walked l rs i (stopped (fault_said f) d) ≡ stopped (fault_said f) d
+stays l rs i f d = stays_stopped l rs i (number_of f.refusal) f.place d
 
 -- Records none of which is at fault.
 pub data Fine : List FrameRecord → Type 0 where
   none : Fine []
   one : {r : FrameRecord} {rs : List FrameRecord} → record_fault r ≡ sound → Fine rs → Fine (r ∷ rs)
 
--- The sum of their pixels, as the pass adds it up from s.
-abbrev pub summed : ℕ → List FrameRecord → ℕ
-summed s [] = s
-summed s (r ∷ rs) = summed (grown s (pixel_bytes r)) rs
+-- Of records from place i on, either one is at fault, or none is.
+pub data Checked (rs : List FrameRecord) (i : ℕ) : Type 0 where
+  at_fault : (n at : ℕ) → ((x : Said) → records_say x i rs ≡ refused_at n at) → Checked rs i
+  fine : Fine rs → ((x : Said) → records_say x i rs ≡ x) → Checked rs i
 
--- A pass from place i that has come to the sum s: either a record is at fault, or none is.
-pub data Checked (l : Layout) (rs : List FrameRecord) (i s : ℕ) (d : List ℕ) : Type 0 where
-  at_fault : (n at : ℕ) → ((x : Said) → records_say x i rs ≡ refused_at n at)
-      → walked rs i (record { layout = l; writing = false; says = accepted s; bytes = d }) ≡ record { layout = l; writing = false; says = refused_at n at; bytes = d } → Checked l rs i s d
-  fine : Fine rs → ((x : Said) → records_say x i rs ≡ x)
-      → walked rs i (record { layout = l; writing = false; says = accepted s; bytes = d }) ≡ record { layout = l; writing = false; says = accepted (summed s rs); bytes = d } → Checked l rs i s d
+check_one : (v : Verdict) (r : FrameRecord) (rs : List FrameRecord) (i : ℕ) → record_fault r ≡ v → Checked rs (i + 1) → Checked (r ∷ rs) i
+unfolding records_say
+check_one sound r rs i e (at_fault n at says) = at_fault n at (λ x. rw e (says x))
+check_one sound r rs i e (fine good says) = fine (one e good) (λ x. rw e (says x))
+check_one (faulty n) r rs i e rest = at_fault n i (λ x. rw e)
 
-check_one : (l : Layout) (v : Verdict) (r : FrameRecord) (rs : List FrameRecord) (i s : ℕ) (d : List ℕ) → record_fault r ≡ v → Checked l rs (i + 1) (grown s (pixel_bytes r)) d → Checked l (r ∷ rs) i s d
-unfolding records_say walked record_written
-check_one l sound r rs i s d e (at_fault n at says walks) = at_fault n at (λ x. rw e (says x)) (rw e walks)
-check_one l sound r rs i s d e (fine good says walks) = fine (one e good) (λ x. rw e (says x)) (rw e walks)
-check_one l (faulty n) r rs i s d e rest = at_fault n i (λ x. rw e) (rw e (stays_refused_at l rs (i + 1) false n i d))
-
-pub check : (l : Layout) (rs : List FrameRecord) (i s : ℕ) (d : List ℕ) → Checked l rs i s d
-unfolding records_say walked
-check l [] i s d = fine none (λ x. refl) refl
-check l (r ∷ rs) i s d = check_one l (record_fault r) r rs i s d refl (check l rs (i + 1) (grown s (pixel_bytes r)) d)
+pub check : (rs : List FrameRecord) (i : ℕ) → Checked rs i
+unfolding records_say
+check [] i = fine none (λ x. refl)
+check (r ∷ rs) i = check_one (record_fault r) r rs i refl (check rs (i + 1))
 
 -- The sum is exact up to the limit, and past it where the pixels are.
 past : (rs : List FrameRecord) (s : ℕ) → length_limit < s → summed s rs ≡ s

@@ -9,18 +9,16 @@ use mathlib.Core.List.{List, ◌++◌}
 use lib.Dec.{eqb, ltb}
 use lib.ListN.{length, take, drop}
 use borrow.Author.Tests.{lt-ltb, le-ltb, ltb-true, ltb-false, eqb-true}
-use Rattle.refusal.specs.declared.Answer.{Answer}
-use Rattle.refusal.specs.declared.Answer.TheVariants.{Done}
-use Rattle.refusal.specs.Answers.{Said, accepted, refused, refused_at, said, leaves}
+use Rattle.std.specs.Prelude.{Option, None, Some}
+use Rattle.refusal.specs.Answers.{Answer, Said, accepted, refused, refused_at, at_place, said, leaves}
 use Rattle.records.specs.declared.FrameRecord.{FrameRecord}
 use Rattle.records.specs.declared.Layout.{Layout}
 use Rattle.records.specs.declared.Layout.TheVariants.{Plain}
 use Rattle.records.specs.Layout.{header_bytes, header_size, record_size}
 use Rattle.records.specs.Faults.{frame_limit}
-use Rattle.layout.specs.declared.Progress.{Progress}
 use Rattle.layout.specs.LayOut.{length_limit, pixels_from, all_pixels, total_length, records_say, layout_says, room_says, placed, table_bytes, header_for, spool_bytes, layout_bytes, record_place}
-use Rattle.layout.specs.HowLaidOut.{State, state_of, walked, stopped, readied, laid}
-use Rattle.layout.proofs.Checking.{stays_refused, stays_refused_at, Fine, summed, Checked, at_fault, fine, check, sum_fits, sum_past}
+use Rattle.layout.specs.HowLaidOut.{State, state_of, starts, summed, walked, stopped, readied, laid}
+use Rattle.layout.proofs.Checking.{stays_stopped, Fine, Checked, at_fault, fine, check, sum_fits, sum_past}
 use Rattle.layout.proofs.Places.{first-place}
 use Rattle.layout.proofs.Read.{header_length}
 use Rattle.layout.proofs.Writing.{over-length, over-take, over-drop, write_all}
@@ -29,20 +27,13 @@ use Rattle.layout.proofs.Writing.{over-length, over-take, over-drop, write_all}
 abbrev pub LaidOut : List FrameRecord → ℕ → List ℕ → Answer → List ℕ → Type 0
 LaidOut rs shop old r new = (said r ≡ layout_says rs (length old)) × (new ≡ leaves (layout_says rs (length old)) (layout_bytes rs shop old) old)
 
--- The progress that the first pass starts with.
-abbrev begins : List ℕ → State
-begins d = record { layout = Plain; writing = false; says = accepted 0; bytes = d }
-
-pub start_state : (d : List ℕ) {p : Progress} → (p.layout ≡ Plain) × (p.writing ≡ false) × (p.answer ≡ Done 0) → state_of p d ≡ begins d
-start_state d h = rw (h.0, h.1, h.2)
-
 -- A state at the end: it says this, and has these bytes.
 abbrev pub Ends : State → Said → List ℕ → Type 0
 Ends z s d = (z.says ≡ s) × (z.bytes ≡ d)
 
 -- The pass that writes sound records, in either layout.
 pub written_out : (l : Layout) (rs : List FrameRecord) (shop : ℕ) (old : List ℕ) → length rs ≤ frame_limit → Fine rs → total_length l rs ≤ length_limit → length old ≡ total_length l rs
-    → Ends (walked rs 0 (record { layout = l; writing = true; says = accepted (pixels_from l (length rs)); bytes = header_bytes l (header_for l (length rs) shop (total_length l rs)) ++ drop (header_size l) old }))
+    → Ends (walked l rs 0 (starts (pixels_from l (length rs)) (header_bytes l (header_for l (length rs) shop (total_length l rs)) ++ drop (header_size l) old)))
     (accepted (total_length l rs)) (spool_bytes l rs shop (drop (pixels_from l (length rs)) old))
 unfolding spool_bytes
 written_out l rs shop old few good small room =
@@ -81,70 +72,53 @@ module _ (rs : List FrameRecord) (shop : ℕ) (old : List ℕ) where
   right : (s : Said) (z : State) → layout_says rs (length old) ≡ s → Ends z s (leaves s (layout_bytes rs shop old) old) → Right z
   right s z e h = rw e h
 
-  -- What the first pass leaves of sound records.
-  abbrev summed_up : State
-  summed_up = record { layout = Plain; writing = false; says = accepted (summed 0 rs); bytes = old }
+  -- The pass that writes, after what stands between the passes, where the first pass says this.
+  abbrev rest : Said → State
+  rest says = walked Plain rs 0 (readied Plain n shop says old)
 
-  -- The second pass, after what stands between the passes.
-  abbrev rest : State → State
-  rest z = walked rs 0 (readied n shop z)
+  refused_ends : (k : ℕ) (place : Option ℕ) → Ends (walked Plain rs 0 (stopped (at_place k place) old)) (at_place k place) old
+  refused_ends k place = let e = stays_stopped Plain rs 0 k place old in (ap (λ (z : State). z.says) e, ap (λ (z : State). z.bytes) e)
 
-  many : (z : State) → z.layout ≡ Plain → z.bytes ≡ old → frame_limit < n → Right (rest z)
+  many : (says : Said) → frame_limit < n → Right (rest says)
   unfolding readied layout_says
-  many z is e h =
-      right (refused 3) (rest z) (rw (lt-ltb _ _ h))
-      (rw (lt-ltb _ _ h, is, e) (ap (λ (y : State). y.says) (stays_refused Plain rs 0 false 3 old), ap (λ (y : State). y.bytes) (stays_refused Plain rs 0 false 3 old)))
+  many says h = right (refused 3) (rest says) (rw (lt-ltb _ _ h)) (rw (lt-ltb _ _ h) (refused_ends 3 None))
 
   module _ (few : n ≤ frame_limit) where
-    refused_ends : (k : ℕ) → Ends (walked rs 0 (stopped Plain (refused k) old)) (refused k) old
-    refused_ends k = (ap (λ (y : State). y.says) (stays_refused Plain rs 0 false k old), ap (λ (y : State). y.bytes) (stays_refused Plain rs 0 false k old))
-
     past_limit : length_limit < total → length_limit < pixels_from Plain n + summed 0 rs
     past_limit h = by-sum (ltb length_limit (all_pixels rs)) refl where
       by-sum : (c : Bool) → ltb length_limit (all_pixels rs) ≡ c → length_limit < pixels_from Plain n + summed 0 rs
       by-sum true q = let more = sum_past rs 0 (rw zero-add (ltb-true _ _ q)) in omega arith
       by-sum false q = rw (sum_fits rs 0 (rw zero-add (ltb-false _ _ q)), zero-add) h
 
-    within : (b : Bool) → ltb length_limit total ≡ false → eqb (length old) total ≡ b → Fine rs → ((x : Said) → records_say x 0 rs ≡ x)
-        → Right (rest summed_up)
-    unfolding readied layout_says
-    within true e f good says =
-        let fits = ltb-false length_limit total e in
-        right (accepted total) (rest summed_up) (rw (le-ltb _ _ few, says verdict, e, f))
-        (rw (le-ltb _ _ few, sum_fits rs 0 (omega arith), zero-add, e, f) (written_out Plain rs shop old few good fits (eqb-true _ _ f)))
-    within false e f good says =
-        right (refused 11) (rest summed_up) (rw (le-ltb _ _ few, says verdict, e, f))
-        (rw (le-ltb _ _ few, sum_fits rs 0 (omega (arith, ltb-false length_limit total e)), zero-add, e, f) (refused_ends 11))
-
     -- Sound records: 14, 11, or the spool.
-    sound : (a b : Bool) → ltb length_limit total ≡ a → eqb (length old) total ≡ b → Fine rs → ((x : Said) → records_say x 0 rs ≡ x)
-        → Right (rest summed_up)
+    sound_records : (a b : Bool) → ltb length_limit total ≡ a → eqb (length old) total ≡ b → Fine rs → ((x : Said) → records_say x 0 rs ≡ x)
+        → Right (rest (accepted (summed 0 rs)))
     unfolding readied layout_says
-    sound true b e f good says =
+    sound_records true b e f good says =
         let past : length_limit < pixels_from Plain n + summed 0 rs = past_limit (ltb-true _ _ e) in
-        right (refused 14) (rest summed_up) (rw (le-ltb _ _ few, says verdict, e))
-        (rw (le-ltb _ _ few, lt-ltb _ _ past) (refused_ends 14))
-    sound false b e f good says = within b e f good says
+        right (refused 14) (rest (accepted (summed 0 rs))) (rw (le-ltb _ _ few, says verdict, e))
+        (rw (le-ltb _ _ few, lt-ltb _ _ past) (refused_ends 14 None))
+    sound_records false true e f good says =
+        let fits = ltb-false length_limit total e in
+        right (accepted total) (rest (accepted (summed 0 rs))) (rw (le-ltb _ _ few, says verdict, e, f))
+        (rw (le-ltb _ _ few, sum_fits rs 0 (omega arith), zero-add, e, f) (written_out Plain rs shop old few good fits (eqb-true _ _ f)))
+    sound_records false false e f good says =
+        right (refused 11) (rest (accepted (summed 0 rs))) (rw (le-ltb _ _ few, says verdict, e, f))
+        (rw (le-ltb _ _ few, sum_fits rs 0 (omega (arith, ltb-false length_limit total e)), zero-add, e, f) (refused_ends 11 None))
 
-  checked : n ≤ frame_limit → Checked Plain rs 0 0 old → Right (rest (walked rs 0 (begins old)))
-  unfolding readied layout_says
-  checked few (at_fault k at says walks) =
-      right (refused_at k at) (rest (walked rs 0 (begins old))) (rw (le-ltb _ _ few, says verdict))
-      (rw (walks, le-ltb _ _ few) (ap (λ (y : State). y.says) (stays_refused_at Plain rs 0 false k at old), ap (λ (y : State). y.bytes) (stays_refused_at Plain rs 0 false k at old)))
-  checked few (fine good says walks) = rw walks (sound few (ltb length_limit total) (eqb (length old) total) refl refl good says)
+    by_check : Checked rs 0 → Right (rest (records_say (accepted (summed 0 rs)) 0 rs))
+    unfolding readied layout_says
+    by_check (at_fault k at says) =
+        right (refused_at k at) (rest (records_say (accepted (summed 0 rs)) 0 rs)) (rw (le-ltb _ _ few, says verdict))
+        (rw (says (accepted (summed 0 rs)), le-ltb _ _ few) (refused_ends k (Some at)))
+    by_check (fine good says) = rw (says (accepted (summed 0 rs))) (sound_records (ltb length_limit total) (eqb (length old) total) refl refl good says)
 
-  keeps : Checked Plain rs 0 0 old → ((walked rs 0 (begins old)).layout ≡ Plain) × ((walked rs 0 (begins old)).bytes ≡ old)
-  keeps (at_fault k at says walks) = (ap (λ (z : State). z.layout) walks, ap (λ (z : State). z.bytes) walks)
-  keeps (fine good says walks) = (ap (λ (z : State). z.layout) walks, ap (λ (z : State). z.bytes) walks)
+  all : (b : Bool) → ltb frame_limit n ≡ b → Right (rest (records_say (accepted (summed 0 rs)) 0 rs))
+  all true e = many (records_say (accepted (summed 0 rs)) 0 rs) (ltb-true _ _ e)
+  all false e = by_check (ltb-false _ _ e) (check rs 0)
 
-  all : (b : Bool) → ltb frame_limit n ≡ b → Right (rest (walked rs 0 (begins old)))
-  all true e =
-      let kept = keeps (check Plain rs 0 0 old) in
-      many (walked rs 0 (begins old)) kept.0 kept.1 (ltb-true _ _ e)
-  all false e = checked (ltb-false _ _ e) (check Plain rs 0 0 old)
-
-pub is-laid : (rs : List FrameRecord) (shop : ℕ) (old : List ℕ) (p : Progress) (new : List ℕ) → state_of p new ≡ laid rs shop old → LaidOut rs shop old p.answer new
+pub is-laid : (rs : List FrameRecord) (shop : ℕ) (old : List ℕ) (r : Answer) (new : List ℕ) → state_of r new ≡ laid rs shop old → LaidOut rs shop old r new
 unfolding laid
-is-laid rs shop old p new e =
+is-laid rs shop old r new e =
     let ends = all rs shop old (ltb frame_limit (length rs)) refl in
     (ap (λ (z : State). z.says) e ∙ ends.0, ap (λ (z : State). z.bytes) e ∙ ends.1)

@@ -49,17 +49,17 @@ room-accepted total room m e = by_tests (ltb length_limit total) (eqb room total
   by_tests false false p q e = let z : ◌≡◌ {A = ℕ} 0 1 = cc in absurd (omega arith)
 
 module _ (rs : List FrameRecord) (room m : ℕ) where
-  by_check : length rs ≤ frame_limit → Checked Plain rs 0 0 [] → layout_says rs room ≡ accepted m → Fits Plain rs room
+  by_check : length rs ≤ frame_limit → Checked rs 0 → layout_says rs room ≡ accepted m → Fits Plain rs room
   unfolding layout_says
-  by_check few (at_fault n at says walks) e = let f = rw (le-ltb _ _ few, says _) at e in let z : ◌≡◌ {A = ℕ} 0 1 = cc in absurd (omega arith)
-  by_check few (fine good says walks) e =
+  by_check few (at_fault n at says) e = let f = rw (le-ltb _ _ few, says _) at e in let z : ◌≡◌ {A = ℕ} 0 1 = cc in absurd (omega arith)
+  by_check few (fine good says) e =
       let v = room-accepted (total_length Plain rs) room m (rw (le-ltb _ _ few, says _) at e) in
       record { few = few; good = good; small = v.0; exact = v.1 }
 
   by_count : (b : Bool) → ltb frame_limit (length rs) ≡ b → layout_says rs room ≡ accepted m → Fits Plain rs room
   unfolding layout_says
   by_count true q e = let f = rw q at e in let z : ◌≡◌ {A = ℕ} 0 1 = cc in absurd (omega arith)
-  by_count false q e = by_check (ltb-false _ _ q) (check Plain rs 0 0 []) e
+  by_count false q e = by_check (ltb-false _ _ q) (check rs 0) e
 
 -- Placed records: how many, which is the k-th, and that they fit.
 pub placed-length : (rs : List FrameRecord) (at : ℕ) → length (placed at rs) ≡ length rs

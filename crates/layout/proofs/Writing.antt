@@ -4,19 +4,18 @@ use Prim.Native.Nat.{ℕ, suc, ◌+◌, ◌-◌, ◌≤◌, ◌<◌}
 use native.Mathlib.Nat.{add-zero, add_assoc, add-sub_of_le, le_trans}
 use native.Mathlib.Omega.{arith}
 use mathlib.Core.Path.{◌≡◌, sym, ap, ap₂, ◌∙◌}
-use mathlib.Core.Bool.{true}
 use mathlib.Core.List.{List, [], ◌∷◌, ◌++◌, append_assoc}
 use lib.ListN.{length, take, drop, length-append, length-take, length-drop, take-append-drop}
 use lib.Seq.{take_at, drop_at, drop-drop}
 use borrow.Author.Tests.{le-ltb}
-use Rattle.refusal.specs.Answers.{sound, accepted}
+use Rattle.refusal.specs.Answers.{sound}
 use Rattle.records.specs.declared.FrameRecord.{FrameRecord}
 use Rattle.records.specs.declared.Layout.{Layout}
 use Rattle.records.specs.Layout.{record_bytes, with_offset}
 use Rattle.records.specs.Pixels.{pixel_bytes, packed}
 use Rattle.records.specs.Faults.{record_fault, frame_limit}
 use Rattle.layout.specs.LayOut.{all_pixels, placed, table_bytes, length_limit, record_place}
-use Rattle.layout.specs.HowLaidOut.{visited, walked}
+use Rattle.layout.specs.HowLaidOut.{starts, visited, walked}
 use Rattle.layout.proofs.Written.{record_length, in_place}
 use Rattle.layout.proofs.Checking.{Fine, none, one}
 use Rattle.layout.proofs.Places.{next_place, later-place}
@@ -48,19 +47,19 @@ module _ (d b : List ℕ) (at end : ℕ) (e : at + length b ≡ end) (h : end �
 
 -- One record written, where it is sound and fits.
 module _ (l : Layout) (r : FrameRecord) (i end : ℕ) (d : List ℕ) (few : i < frame_limit) (small : end ≤ length_limit) (room : record_place l (i + 1) ≤ length d) where
-  write-one : record_fault r ≡ sound → visited (record { layout = l; writing = true; says = accepted end; bytes = d }) i r
-      ≡ record { layout = l; writing = true; says = accepted (end + pixel_bytes r); bytes = over d (record_bytes l (packed (with_offset end r))) (record_place l i) (record_place l (i + 1)) }
+  write-one : record_fault r ≡ sound → visited l (starts end d) i r
+      ≡ starts (end + pixel_bytes r) (over d (record_bytes l (packed (with_offset end r))) (record_place l i) (record_place l (i + 1)))
   write-one good =
       rw (good, le-ltb _ _ small)
-      (ap (λ (b : List ℕ). record { layout = l; writing = true; says = accepted (end + pixel_bytes r); bytes = b })
+      (ap (λ (b : List ℕ). starts (end + pixel_bytes r) b)
       (in_place l i end r d few small (rw (next_place l i) room) ∙ ap (λ (k : ℕ). take (record_place l i) d ++ (record_bytes l (packed (with_offset end r)) ++ drop k d)) (next_place l i)))
 
 pub write_all : (l : Layout) (rs : List FrameRecord) (i end : ℕ) (d : List ℕ) → Fine rs → i + length rs ≤ frame_limit → end + all_pixels rs ≤ length_limit → record_place l (i + length rs) ≤ length d
-    → walked rs i (record { layout = l; writing = true; says = accepted end; bytes = d })
-    ≡ record { layout = l; writing = true; says = accepted (end + all_pixels rs); bytes = take (record_place l i) d ++ (table_bytes l (placed end rs) ++ drop (record_place l (i + length rs)) d) }
+    → walked l rs i (starts end d)
+    ≡ starts (end + all_pixels rs) (take (record_place l i) d ++ (table_bytes l (placed end rs) ++ drop (record_place l (i + length rs)) d))
 unfolding walked
 write_all l [] i end d none few small room =
-    rw (add-zero end, add-zero i) (ap (λ (b : List ℕ). record { layout = l; writing = true; says = accepted end; bytes = b }) (sym (take-append-drop (record_place l i) d)))
+    rw (add-zero end, add-zero i) (ap (λ (b : List ℕ). starts end b) (sym (take-append-drop (record_place l i) d)))
 write_all l (r ∷ rs) i end d (one good rest) few small room =
     let low : i < frame_limit = omega arith in
     let fits : end ≤ length_limit = omega arith in
@@ -72,9 +71,9 @@ write_all l (r ∷ rs) i end d (one good rest) few small room =
     let d' = over d b (record_place l i) (record_place l (i + 1)) in
     let long : length d' ≡ length d = over-length d b (record_place l i) (record_place l (i + 1)) e next in
     let more : record_place l (i + 1 + length rs) ≤ length d' = rw (long, step) room in
-    ap (walked rs (i + 1)) (write-one l r i end d low fits next good)
+    ap (walked l rs (i + 1)) (write-one l r i end d low fits next good)
     ∙ write_all l rs (i + 1) (end + pixel_bytes r) d' rest (omega arith) (omega arith) more
-    ∙ ap₂ (λ (n : ℕ) (x : List ℕ). record { layout = l; writing = true; says = accepted n; bytes = x }) (add_assoc end (pixel_bytes r) (all_pixels rs))
+    ∙ ap₂ (λ (n : ℕ) (x : List ℕ). starts n x) (add_assoc end (pixel_bytes r) (all_pixels rs))
     (ap (λ (x : List ℕ). x ++ (table_bytes l (placed (end + pixel_bytes r) rs) ++ drop (record_place l (i + 1 + length rs)) d')) (over-take d b (record_place l i) (record_place l (i + 1)) e next)
     ∙ ap (λ (x : List ℕ). (take (record_place l i) d ++ b) ++ (table_bytes l (placed (end + pixel_bytes r) rs) ++ x)) (over-drop d b (record_place l i) (record_place l (i + 1)) e next (record_place l (i + 1 + length rs)) (rw step further))
     ∙ ap (λ (k : ℕ). (take (record_place l i) d ++ b) ++ (table_bytes l (placed (end + pixel_bytes r) rs) ++ drop (record_place l k) d)) step

@@ -1,20 +1,21 @@
 // Laying out a spool (rule 7.8) from a lent list of records: a pass over them that checks, the header, and
 // a pass that writes. It promises the refusals in the rule's order, and every byte of the destination; it
-// asks nothing of a caller. The steps of a pass take either layout; `lay_out` itself writes plain spools.
+// asks nothing of a caller. The steps take either layout; `lay_out` itself writes plain spools.
 #![tactic(auto)]
 
-ghost use Rattle.std.specs.Prelude.{◌≡◌, false, ◌≤◌, length};
+ghost use Rattle.std.specs.Prelude.{◌≡◌, ◌≤◌, length};
+ghost use Rattle.records.specs.declared.Layout.TheVariants.{Plain};
 ghost use Rattle.records.specs.Faults.{frame_limit};
 ghost use Rattle.records.specs.Pixels.{pixel_bytes};
 ghost use Rattle.refusal.specs.Answers.{accepted, said, leaves};
-ghost use Rattle.layout.specs.LayOut.{layout_says, layout_bytes};
-ghost use Rattle.layout.specs.HowLaidOut.{state_of, grown, record_written, visited, walked, begun, readied};
+ghost use Rattle.layout.specs.LayOut.{layout_says, layout_bytes, records_say};
+ghost use Rattle.layout.specs.HowLaidOut.{state_of, starts, grown, summed, checked, record_written, visited, walked, begun, readied};
 
 use records::{
     FRAME_LIMIT, FrameRecord, Header, Layout, check_record, header_bytes, header_size, packed,
     pixel_bytes, record_size, strided_bytes, too_many_frames, with_offset,
 };
-use refusal::{Answer, Checked, Refusal};
+use refusal::{Answer, Refusal};
 
 // ---- one step at a time
 
@@ -32,20 +33,18 @@ fn grow(end: usize, frame: FrameRecord) -> usize
     end + pixel_bytes(frame)
 }
 
-// Writes the record of frame number `place`, with its pixels at `end`, if it is to be written.
-fn write_record(
-    dst: &mut [u8],
-    layout: Layout,
-    writing: bool,
-    place: usize,
-    end: usize,
-    frame: FrameRecord,
-)
-    ensures { dst.new ≡ record_written layout writing place end frame dst.old }
+// The check of record number `place`, whose pixels start at `end`: where they end.
+pub fn check(end: usize, place: usize, frame: FrameRecord) -> Answer
+    ensures { said result ≡ checked end place frame }
 {
-    if !writing {
-        return;
-    }
+    check_record(frame).map_err(|refusal| refusal.at(place))?;
+    Ok(grow(end, frame))
+}
+
+// Writes the record of frame number `place`, with its pixels at `end`, if it has a place there.
+fn write_record(dst: &mut [u8], layout: Layout, place: usize, end: usize, frame: FrameRecord)
+    ensures { dst.new ≡ record_written layout place end frame dst.old }
+{
     if FRAME_LIMIT <= place {
         return;
     }
@@ -61,61 +60,30 @@ fn write_record(
     dst[at..at + size].copy_from_slice(&bytes[..size]);
 }
 
-// How far a pass over the records has come: whether it writes, its answer so far, which is the offset
-// behind the pixels placed so far where nothing was refused, and the layout that it lays out.
-#[derive(Clone, Copy)]
-pub struct Progress {
-    pub writing: bool,
-    pub answer: Answer,
-    pub layout: Layout,
-}
-
-// One record: checked, and written where the pass writes.
-pub fn visit(dst: &mut [u8], progress: Progress, place: usize, frame: FrameRecord) -> Progress
-    ensures { state_of result dst.new ≡ visited (state_of progress dst.old) place frame }
+// The same check, and the record written if it is sound.
+pub fn visit(dst: &mut [u8], layout: Layout, end: usize, place: usize, frame: FrameRecord) -> Answer
+    ensures { state_of result dst.new ≡ visited layout (starts end dst.old) place frame }
 {
-    let layout = progress.layout;
-    let writing = progress.writing;
-    let answer = progress.answer;
-    match answer {
-        Answer::Done(end) => match check_record(frame) {
-            Checked::Faulty(refusal) => Progress {
-                writing,
-                answer: Answer::RefusedAt(refusal, place),
-                layout,
-            },
-            Checked::Sound => {
-                write_record(dst, layout, writing, place, end, frame);
-                Progress {
-                    writing,
-                    answer: Answer::Done(grow(end, frame)),
-                    layout,
-                }
-            }
-        },
-        Answer::Refused(_) => progress,
-        Answer::RefusedAt(_, _) => progress,
-    }
+    let next = check(end, place, frame)?;
+    write_record(dst, layout, place, end, frame);
+    Ok(next)
 }
 
-// The header, once the records are known to be sound and their pixels to take so many bytes: the
-// total length is checked, and the pass that writes is begun.
-fn begin(layout: Layout, count: usize, shop: u16, pixels: usize, dst: &mut [u8]) -> Progress
+// The header, once the records are known to be sound and their pixels to take so many bytes: the total
+// length is checked. The answer is where the pixels start.
+fn begin(layout: Layout, count: usize, shop: u16, pixels: usize, dst: &mut [u8]) -> Answer
     requires { count ≤ frame_limit }
     ensures { state_of result dst.new ≡ begun layout count shop (accepted pixels) dst.old }
 {
-    if LENGTH_LIMIT < pixels {
-        return stop(layout, Answer::Refused(Refusal::TotalTooLong));
-    }
     let least = header_size(layout);
     let size = record_size(layout);
     let first = least + size * count;
-    let total = first + pixels;
+    let total = first.saturating_add(pixels);
     if LENGTH_LIMIT < total {
-        return stop(layout, Answer::Refused(Refusal::TotalTooLong));
+        return Err(Refusal::TotalTooLong.into());
     }
     if dst.len() != total {
-        return stop(layout, Answer::Refused(Refusal::WrongDestinationLength));
+        return Err(Refusal::WrongDestinationLength.into());
     }
     let header = Header {
         count: count as u16,
@@ -126,72 +94,49 @@ fn begin(layout: Layout, count: usize, shop: u16, pixels: usize, dst: &mut [u8])
     };
     let bytes = header_bytes(layout, header);
     dst[..least].copy_from_slice(&bytes[..least]);
-    Progress {
-        writing: true,
-        answer: Answer::Done(first),
-        layout,
-    }
-}
-
-// A pass that has ended in a refusal.
-fn stop(layout: Layout, answer: Answer) -> Progress
-    ensures { (result.layout ≡ layout) × (result.writing ≡ false) × (result.answer ≡ answer) }
-{
-    Progress {
-        writing: false,
-        answer,
-        layout,
-    }
+    Ok(first)
 }
 
 // Between the pass that checks and the pass that writes: the refusals in the rule's order, and the
-// header.
-pub fn ready(checked: Progress, count: usize, shop: u16, dst: &mut [u8]) -> Progress
-    ensures { state_of result dst.new ≡ readied count shop (state_of checked dst.old) }
+// header. `checked` is what the first pass answers; the second starts where this one's answer says.
+pub fn ready(layout: Layout, count: usize, shop: u16, checked: Answer, dst: &mut [u8]) -> Answer
+    ensures { state_of result dst.new ≡ readied layout count shop (said checked) dst.old }
 {
-    let layout = checked.layout;
     if too_many_frames(count) {
-        return stop(layout, Answer::Refused(Refusal::TooManyFrames));
+        return Err(Refusal::TooManyFrames.into());
     }
-    let answer = checked.answer;
-    match answer {
-        Answer::Done(pixels) => begin(layout, count, shop, pixels, dst),
-        Answer::Refused(_) => stop(layout, answer),
-        Answer::RefusedAt(_, _) => stop(layout, answer),
-    }
-}
-
-// A pass that checks, before its first record, for a plain spool.
-fn unchecked() -> Progress
-    ensures { (result.layout ≡ Layout.Plain) × (result.writing ≡ false) × (result.answer ≡ Answer.Done 0) }
-{
-    stop(Layout::Plain, Answer::Done(0))
+    begin(layout, count, shop, checked?, dst)
 }
 
 // ---- the passes
 
-// The one loop over the lent records: each is read by value and visited.
-fn pass(records: &[FrameRecord], dst: &mut [u8], start: Progress) -> Progress
-    ensures { state_of result dst.new ≡ walked records.now 0 (state_of start dst.old) }
+// The pass that checks: the first record at fault, or the bytes of all pixels.
+fn check_records(records: &[FrameRecord]) -> Answer
+    ensures { said result ≡ records_say (accepted (summed 0 records.now)) 0 records.now }
 {
-    let mut progress = start;
-    let mut place: usize = 0;
-    while place < records.len() {
-        let frame = records[place];
-        progress = visit(&mut *dst, progress, place, frame);
-        place = place + 1;
+    let mut end = 0;
+    for (place, frame) in records.iter().enumerate() {
+        end = check(end, place, *frame)?;
     }
-    progress
+    Ok(end)
 }
 
-// Lays out a spool of these records in the destination: a pass that checks, the header, and a pass
-// that writes.
+// The pass that writes, in a plain spool whose pixels start at `first`.
+fn write_records(records: &[FrameRecord], first: usize, dst: &mut [u8]) -> Answer
+    ensures { state_of result dst.new ≡ walked Plain records.now 0 (starts first dst.old) }
+{
+    let mut end = first;
+    for (place, frame) in records.iter().enumerate() {
+        end = visit(dst, Layout::Plain, end, place, *frame)?;
+    }
+    Ok(end)
+}
+
+// Lays out a spool of these records in the destination.
 pub fn lay_out(records: &[FrameRecord], shop: u16, dst: &mut [u8]) -> Answer
     ensures { (said result ≡ layout_says records.now (length dst.old)) × (dst.new ≡ leaves (layout_says records.now (length dst.old)) (layout_bytes records.now shop dst.old) dst.old) }
 {
-    let start = unchecked();
-    let checked = pass(records, &mut *dst, start);
-    let next = ready(checked, records.len(), shop, &mut *dst);
-    let ended = pass(records, &mut *dst, next);
-    ended.answer
+    let checked = check_records(records);
+    let first = ready(Layout::Plain, records.len(), shop, checked, dst)?;
+    write_records(records, first, dst)
 }

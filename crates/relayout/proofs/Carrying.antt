@@ -11,26 +11,28 @@ use lib.ListN.{length, drop, length-append, length-drop, drop_of_length-le}
 use lib.Seq.{take_at}
 use borrow.Author.Tests.{le-ltb, ltb-false, eqb-true}
 use Rattle.refusal.specs.declared.Refusal.{Refusal}
-use Rattle.refusal.specs.Answers.{sound, Said, accepted, refused, refused_at, leaves}
+use Rattle.std.specs.Prelude.{Option, None, Some, Result, Err}
+use Rattle.refusal.specs.declared.Fault.{Fault}
+use Rattle.refusal.specs.Answers.{at_place, fault_said, sound, Said, accepted, refused, refused_at, leaves}
 use Rattle.refusal.specs.Refusals.{number_of}
 use Rattle.records.specs.declared.FrameRecord.{FrameRecord}
 use Rattle.records.specs.declared.Header.{Header}
 use Rattle.records.specs.declared.Layout.{Layout}
 use Rattle.records.specs.Layout.{header_of, header_size, header_bytes}
 use Rattle.records.specs.Faults.{frame_limit}
-use Rattle.spool.specs.declared.Opened.{Opened}
-use Rattle.spool.specs.declared.Opened.TheVariants as opened
+use Rattle.spool.specs.declared.Contents.{Contents}
 use Rattle.spool.specs.Open.{open_fault, open_said, open_says}
 use Rattle.spool.specs.Find.{record_at, frame_fault}
 use Rattle.spool.proofs.OpenFaults.{open_file, refused-fault}
 use Rattle.spool.proofs.FindFaults.{sound_record}
 use Rattle.layout.specs.LayOut.{length_limit, pixels_from, all_pixels, total_length, room_says, placed, table_bytes, header_for, spool_bytes}
-use Rattle.layout.specs.HowLaidOut.{State, walked, readied}
+use Rattle.layout.specs.HowLaidOut.{State, starts, stopped, walked, readied}
 use Rattle.layout.proofs.Checking.{Fine, none, one}
 use Rattle.layout.proofs.Laid.{written_out}
 use Rattle.layout.proofs.RoundTrip.{front_length}
+use Rattle.relayout.specs.declared.OpenSpool.{OpenSpool}
 use Rattle.relayout.specs.Relayout.{target, records_from, records_of, frames_say, relayout_says, pixels_of, relaid}
-use Rattle.relayout.specs.HowCarried.{over, Written}
+use Rattle.relayout.specs.HowCarried.{over}
 use Rattle.relayout.proofs.Frames.{records_length, AllSound, now_sound, later-sound, nothing_said, Checked, at_fault, fine, check, pixels-length}
 
 -- The records of sound frames have no fault.
@@ -43,7 +45,7 @@ records_fine file (suc left) k all =
     (records_fine file left (k + 1) (later-sound file left k all))
 
 -- A file that does not open.
-pub shut : (file : List ℕ) (room : ℕ) {o : Opened} {r : Refusal} → o ≡ opened.Refused r → open_said o ≡ open_says file → refused (number_of r) ≡ relayout_says file room
+pub shut : (file : List ℕ) (room : ℕ) {o : Result Contents Refusal} {r : Refusal} → o ≡ Err r → open_said o ≡ open_says file → refused (number_of r) ≡ relayout_says file room
 unfolding relayout_says
 shut file room {r = r} e said = rw (refused-fault (number_of r) (open_fault file) (header_of file) (ap open_said (sym e) ∙ said))
 
@@ -53,12 +55,29 @@ Refuses (accepted n) = ⊥
 Refuses (refused n) = Unit
 Refuses (refused_at n at) = Unit
 
+refuses_at_place : (n : ℕ) (place : Option ℕ) → Refuses (at_place n place)
+refuses_at_place n None = tt
+refuses_at_place n (Some at) = tt
+
+pub fault_refuses : (f : Fault) → Refuses (fault_said f)
+fault_refuses f = refuses_at_place (number_of f.refusal) f.place
+
 refuses-leaves : (s : Said) (new old : List ℕ) → Refuses s → old ≡ leaves s new old
 refuses-leaves (accepted n) new old h = absurd h
 refuses-leaves (refused n) new old h = refl
 refuses-leaves (refused_at n at) new old h = refl
 
-module _ (file d : List ℕ) (opens : open_fault file ≡ sound) where
+-- So many frames an open spool has.
+how_many_lem : (file : List ℕ) → length (records_of file) ≡ (header_of file).count
+how_many_lem file = records_length file (header_of file).count 0
+
+pub few : (file : List ℕ) → open_fault file ≡ sound → length (records_of file) ≤ frame_limit
+few file opens = let most = (open_file file opens).few in let many = how_many_lem file in rw many most
+
+module _ (spool : OpenSpool) (d : List ℕ) where
+  abbrev file : List ℕ
+  file = spool.file.now
+
   abbrev l : Layout
   l = target file
 
@@ -77,15 +96,12 @@ module _ (file d : List ℕ) (opens : open_fault file ≡ sound) where
   abbrev header : Header
   header = header_for l (length rs) shop total
 
-  how_many_lem : length rs ≡ count
-  how_many_lem = records_length file count 0
-
-  pub few : length rs ≤ frame_limit
-  few = let most = (open_file file opens).few in rw how_many_lem most
+  few_here : length rs ≤ frame_limit
+  few_here = few file spool.opens
 
   -- The state before the table is written.
   abbrev begins : State
-  begins = record { layout = l; writing = true; says = accepted (pixels_from l (length rs)); bytes = header_bytes l header ++ drop (header_size l) d }
+  begins = starts (pixels_from l (length rs)) (header_bytes l header ++ drop (header_size l) d)
 
   -- What `ready` leaves: a refusal, or that state.
   pub data Begun (z : State) : Type 0 where
@@ -93,25 +109,28 @@ module _ (file d : List ℕ) (opens : open_fault file ≡ sound) where
     writes : AllSound file count 0 → total ≤ length_limit → length d ≡ total → relayout_says file (length d) ≡ accepted total → z ≡ begins → Begun z
 
   abbrev after : Said → State
-  after says = readied (length rs) shop (record { layout = l; writing = false; says = says; bytes = d })
+  after says = readied l (length rs) shop says d
 
   by_room : (a b : Bool) → ltb length_limit total ≡ a → eqb (length d) total ≡ b → AllSound file count 0 → Begun (after (accepted (all_pixels rs)))
   unfolding readied relayout_says
-  by_room true b e f all = ends (refused 14) tt (rw (opens, nothing_said file count 0 all (room_says total (length d)), e)) (rw (le-ltb _ _ few, e)) (rw (le-ltb _ _ few, e))
+  by_room true b e f all = ends (refused 14) tt (rw (spool.opens, nothing_said file count 0 all (room_says total (length d)), e)) (rw (le-ltb _ _ few_here, e)) (rw (le-ltb _ _ few_here, e))
   by_room false true e f all =
-      writes all (ltb-false _ _ e) (eqb-true _ _ f) (rw (opens, nothing_said file count 0 all (room_says total (length d)), e, f)) (rw (le-ltb _ _ few, e, f))
-  by_room false false e f all = ends (refused 11) tt (rw (opens, nothing_said file count 0 all (room_says total (length d)), e, f)) (rw (le-ltb _ _ few, e, f)) (rw (le-ltb _ _ few, e, f))
+      writes all (ltb-false _ _ e) (eqb-true _ _ f) (rw (spool.opens, nothing_said file count 0 all (room_says total (length d)), e, f)) (rw (le-ltb _ _ few_here, e, f))
+  by_room false false e f all = ends (refused 11) tt (rw (spool.opens, nothing_said file count 0 all (room_says total (length d)), e, f)) (rw (le-ltb _ _ few_here, e, f)) (rw (le-ltb _ _ few_here, e, f))
 
   by_check : Checked file count 0 → Begun (after (frames_say file (accepted (all_pixels rs)) count 0))
   unfolding readied relayout_says
   by_check (at_fault n at says) =
-      ends (refused_at n at) tt (rw (opens, says (room_says total (length d)))) (rw (le-ltb _ _ few, says (accepted (all_pixels rs)))) (rw (le-ltb _ _ few, says (accepted (all_pixels rs))))
+      ends (refused_at n at) tt (rw (spool.opens, says (room_says total (length d)))) (rw (le-ltb _ _ few_here, says (accepted (all_pixels rs)))) (rw (le-ltb _ _ few_here, says (accepted (all_pixels rs))))
   by_check (fine all) = rw (nothing_said file count 0 all (accepted (all_pixels rs))) (by_room (ltb length_limit total) (eqb (length d) total) refl refl all)
 
-  pub begun : {n number : ℕ} {m : Layout} {says : Said} {z : State} → n ≡ count → number ≡ shop → m ≡ l → says ≡ frames_say file (accepted (all_pixels rs)) n 0
-      → z ≡ readied n number (record { layout = m; writing = false; says = says; bytes = d }) → Begun z
-  begun e f g h is =
-      subst Begun (sym (is ∙ rw (f, g, h, e) (ap (λ (k : ℕ). readied k shop (record { layout = l; writing = false; says = frames_say file (accepted (all_pixels rs)) count 0; bytes = d })) (sym how_many_lem)))) (by_check (check file count 0))
+  begun_by : {n number : ℕ} {m : Layout} {says : Said} {z : State} → n ≡ count → number ≡ shop → m ≡ l → says ≡ frames_say file (accepted (all_pixels rs)) n 0
+      → z ≡ readied m n number says d → Begun z
+  begun_by e f g h is =
+      subst Begun (sym (is ∙ rw (f, g, h, e) (ap (λ (k : ℕ). readied l k shop (frames_say file (accepted (all_pixels rs)) count 0) d) (sym (how_many_lem file))))) (by_check (check file count 0))
+
+  pub begun : {m : Layout} {says : Said} {z : State} → m ≡ l → says ≡ frames_say file (accepted (all_pixels rs)) spool.count 0 → z ≡ readied m spool.count spool.shop says d → Begun z
+  begun to checked is = begun_by spool.counted spool.owned to checked is
 
   -- Refused, the answer is the operation's, and the destination is as it was.
   pub refused_ends : {z : State} → Begun z → Refuses z.says → (z.says ≡ relayout_says file (length d)) × (z.bytes ≡ leaves (relayout_says file (length d)) (relaid file) d)
@@ -134,13 +153,13 @@ module _ (file d : List ℕ) (opens : open_fault file ≡ sound) where
 
   module _ {z : State} {first : ℕ} (g : Goes z first) where
     bytes-length : length (pixels_of file) ≡ all_pixels rs
-    bytes-length = pixels-length file count 0 opens (le_of_eq (zero-add count)) g.all
+    bytes-length = pixels-length file count 0 spool.opens (le_of_eq (zero-add count)) g.all
 
     pub room_for : (d' : List ℕ) → length d' ≡ length d → first + length (pixels_of file) ≤ length d'
     room_for d' long = let e = bytes-length in let f = g.starts in let h = g.room in rw (e, f, long, h) (omega arith)
 
-    pub each-sound : (k : ℕ) → k < count → frame_fault false file (record_at file k) ≡ sound
-    each-sound k below = ap (λ (i : ℕ). frame_fault false file (record_at file i)) (sym (zero-add k)) ∙ g.all k below
+    pub each-sound : (k : ℕ) → k < spool.count → frame_fault false file (record_at file k) ≡ sound
+    each-sound k below = ap (λ (i : ℕ). frame_fault false file (record_at file i)) (sym (zero-add k)) ∙ g.all k (rw spool.counted at below)
 
     abbrev front : List ℕ
     front = header_bytes l header ++ table_bytes l (placed (pixels_from l (length rs)) rs)
@@ -171,13 +190,18 @@ module _ (file d : List ℕ) (opens : open_fault file ≡ sound) where
         ∙ ap (λ (x : List ℕ). front ++ x) (append-nil (pixels_of file))
         ∙ sym (spool-is (pixels_of file))
 
-    pub done : {s : Said} {d' : List ℕ} → Written file first z s d' → (s ≡ relayout_says file (length d)) × (d' ≡ leaves (relayout_says file (length d)) (relaid file) d)
-    done written =
-        let out = written_out l rs shop d few (records_fine file count 0 g.all) g.small g.room in (
-          written.0 ∙ ap (λ (y : State). (walked rs 0 y).says) g.is ∙ out.0 ∙ sym g.says,
-          written.1
-              ∙ ap (λ (y : State). over (walked rs 0 y).bytes first (pixels_of file)) g.is
-              ∙ ap (λ (x : List ℕ). over x first (pixels_of file)) out.1
-              ∙ copied_in
-              ∙ ap (λ (x : Said). leaves x (relaid file) d) (sym g.says),
-        )
+    -- What the table leaves, with the pixels copied over it.
+    module _ {s : Said} {w : List ℕ} (table : stopped s w ≡ walked l rs 0 z) where
+      out : stopped s w ≡ stopped (accepted total) (spool_bytes l rs shop tail)
+      out =
+          let ends = written_out l rs shop d few_here (records_fine file count 0 g.all) g.small g.room in
+          table ∙ ap (walked l rs 0) g.is ∙ ap₂ stopped ends.0 ends.1
+
+      pub accepts : s ≡ accepted total
+      accepts = ap (λ (y : State). y.says) out
+
+      pub done : {d' : List ℕ} → d' ≡ over w first (pixels_of file) → (s ≡ relayout_says file (length d)) × (d' ≡ leaves (relayout_says file (length d)) (relaid file) d)
+      done copied = (
+        accepts ∙ sym g.says,
+        copied ∙ ap (λ (y : State). over y.bytes first (pixels_of file)) out ∙ copied_in ∙ ap (λ (x : Said). leaves x (relaid file) d) (sym g.says),
+      )

@@ -8,7 +8,6 @@ use mathlib.Core.List.{List, [], ◌++◌, append_assoc}
 use lib.ListN.{length, take, drop, length-append, take-append-drop}
 use lib.Seq.{drop-drop}
 use Rattle.relayout.specs.HowCarried.{over}
-use Rattle.layout.proofs.Written.{copied, put-there}
 use Rattle.layout.proofs.Writing.{over-length, over-take, over-drop}
 
 pub over_none : (d : List ℕ) (at : ℕ) → over d at [] ≡ d
@@ -26,13 +25,7 @@ module _ (d a : List ℕ) (at : ℕ) (room : at + length a ≤ length d) where
       ∙ append_assoc (take at d) a (b ++ drop (at + length (a ++ b)) d)
       ∙ ap (λ (x : List ℕ). take at d ++ x) (sym (append_assoc a b (drop (at + length (a ++ b)) d)))
 
--- A part copied to its place.
-pub copied_over : (d : List ℕ) {a b part : List ℕ} (at : ℕ) → at ≤ length d → a ≡ b
-    → part ≡ take (length a) a ++ drop (length a) (take (length d - at) (drop at d))
-    → take at d ++ (part ++ drop (length d - at) (drop at d)) ≡ over d at b
-copied_over d {a} {b} {part} at h e f = put-there d b part at (length b) h (copied (take (length d - at) (drop at d)) e f)
-
--- The same, where exactly the place was written.
+-- A part written to exactly its place.
 pub put_over : (d b : List ℕ) {part : List ℕ} (at : ℕ) → part ≡ b → put_mid at (at + length b - at) d part ≡ over d at b
 put_over d b at e =
     ap₂ (λ (x y : List ℕ). take at d ++ (x ++ y)) e (drop-drop (at + length b - at) at d ∙ ap (λ (n : ℕ). drop n d) (omega arith))

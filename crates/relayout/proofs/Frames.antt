@@ -8,18 +8,19 @@ use mathlib.Core.Bool.{true, false}
 use mathlib.Core.List.{List, [], ◌∷◌, ◌++◌}
 use lib.ListN.{length, take, drop, length-append, length-take, length-drop}
 use borrow.Author.Tests.{le-ltb}
-use Rattle.refusal.specs.Answers.{Verdict, sound, faulty, Said, accepted, refused_at}
+use Rattle.refusal.specs.Answers.{fault_said, Verdict, sound, faulty, Said, accepted, refused_at}
 use Rattle.records.specs.declared.FrameRecord.{FrameRecord}
 use Rattle.records.specs.declared.StridedRecord.{StridedRecord}
+use Rattle.records.specs.declared.Layout.{Layout}
 use Rattle.records.specs.Layout.{header_of}
 use Rattle.records.specs.Pixels.{pixel_bytes}
 use Rattle.records.proofs.Strides.{gaps_taken, sound_stride, free_span}
-use Rattle.spool.specs.declared.Found.{Found}
-use Rattle.spool.specs.declared.Found.TheVariants.{Frame, Refused}
+use Rattle.std.specs.Prelude.{Some, Ok, Err}
+use Rattle.refusal.specs.declared.Fault.{Fault}
 use Rattle.refusal.specs.declared.Refusal.{Refusal}
 use Rattle.refusal.specs.Refusals.{number_of}
 use Rattle.spool.specs.Open.{open_fault}
-use Rattle.spool.specs.Find.{FindSaid, finds, record_at, pixels_outside, frame_fault, find_said, says_of, find_says, pixels_start, pixels_length, frame_pixels}
+use Rattle.spool.specs.Find.{Found, FindSaid, finds, record_at, pixels_outside, frame_fault, find_said, says_of, find_says, pixels_start, pixels_length, frame_pixels}
 use Rattle.spool.proofs.FindFaults.{by_record, found, finds-sound, refuses-faulty, Sound, sound_record}
 use Rattle.layout.specs.LayOut.{all_pixels}
 use Rattle.layout.specs.HowLaidOut.{State, visited, walked}
@@ -27,11 +28,15 @@ use Rattle.relayout.specs.Relayout.{records_from, frames_say, frame_pixels_from}
 
 -- What is found of a frame that the spool has: its record, which is sound, or the record's fault.
 module _ (file : List ℕ) (k : ℕ) (opens : open_fault file ≡ sound) (below : k < (header_of file).count) {f : Found} (said : find_said f ≡ says_of false file k) where
-  pub frame-sound : {s : StridedRecord} → f ≡ Frame s → (frame_fault false file (record_at file k) ≡ sound) × (s ≡ record_at file k)
+  pub frame-sound : {s : StridedRecord} → f ≡ Ok s → (frame_fault false file (record_at file k) ≡ sound) × (s ≡ record_at file k)
   frame-sound e = finds-sound (frame_fault false file (record_at file k)) (ap find_said (sym e) ∙ said ∙ sym (by_record false file k opens below refl))
 
-  pub frame-faulty : {r : Refusal} → f ≡ Refused r → frame_fault false file (record_at file k) ≡ faulty (number_of r)
+  pub frame-faulty : {r : Refusal} → f ≡ Err r → frame_fault false file (record_at file k) ≡ faulty (number_of r)
   frame-faulty e = refuses-faulty (frame_fault false file (record_at file k)) (record_at file k) (ap find_said (sym e) ∙ said ∙ sym (by_record false file k opens below refl))
+
+-- A fault with a place says it.
+pub said_there : (f : Fault) (k : ℕ) → f.place ≡ Some k → fault_said f ≡ refused_at (number_of f.refusal) k
+said_there f k e = rw e
 
 -- The frames from frame k on, of so many: one more, and none left.
 module _ (file : List ℕ) (count k : ℕ) where
@@ -75,14 +80,15 @@ module _ (file : List ℕ) (count k : ℕ) where
   sum-none total past = rw (none_left past, add-zero total)
 
   -- The pass that writes the table.
-  pub walk_more : (z : State) {z' : State} {s : StridedRecord} → k < count → s ≡ record_at file k → z' ≡ visited z k s.frame
-      → walked (records_from file (count - (k + 1)) (k + 1)) (k + 1) z' ≡ walked (records_from file (count - k) k) k z
-  unfolding walked
-  walk_more z below e step = rw (records_more below, step, e)
+  module _ (l : Layout) (z : State) where
+    pub walk_more : {r : FrameRecord} → k < count → r ≡ (record_at file k).frame
+        → walked l (records_from file (count - k) k) k z ≡ walked l (records_from file (count - (k + 1)) (k + 1)) (k + 1) (visited l z k r)
+    unfolding walked
+    walk_more below e = rw (records_more below, e)
 
-  pub walk_none : (z : State) → count ≤ k → walked (records_from file (count - k) k) k z ≡ z
-  unfolding walked records_from
-  walk_none z past = rw (none_left past)
+    pub walk_none : count ≤ k → walked l (records_from file (count - k) k) k z ≡ z
+    unfolding walked records_from
+    walk_none past = rw (none_left past)
 
 -- How many records there are.
 pub records_length : (file : List ℕ) (left k : ℕ) → length (records_from file left k) ≡ left

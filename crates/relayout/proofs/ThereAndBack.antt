@@ -77,7 +77,7 @@ module _ (l : Layout) (file : List ℕ) (c : Carriable file) (small : total_leng
 
   fits : Fits l rs (length old)
   fits = record {
-    few = few file [] c.opened;
+    few = few file c.opened;
     good = records_fine file count 0 c.all;
     small = small;
     exact = length-append front (pixels_of file) ∙ ap₂ (λ (a b : ℕ). a + b) front_is bytes-length;
@@ -202,9 +202,9 @@ all_placed [] at = refl
 all_placed (r ∷ rs) at = ap (λ (n : ℕ). pixel_bytes r + n) (all_placed rs (at + pixel_bytes r))
 
 before-placed : (k : ℕ) (rs : List FrameRecord) (at : ℕ) → all_pixels (take k (placed at rs)) ≡ all_pixels (take k rs)
-before-placed zero rs at = refl
+before-placed zero all at = refl
 before-placed (suc k) [] at = refl
-before-placed (suc k) (r ∷ rs) at = ap (λ (n : ℕ). pixel_bytes r + n) (before-placed k rs (at + pixel_bytes r))
+before-placed (suc k) (r ∷ more) at = ap (λ (n : ℕ). pixel_bytes r + n) (before-placed k more (at + pixel_bytes r))
 
 module _ (file : List ℕ) (c : Carriable file) (out : total_length (target file) (records_of file) ≤ length_limit) (home : total_length (layout_of file) (records_of file) ≤ length_limit) where
   abbrev first : List ℕ

@@ -10,106 +10,87 @@ ghost use Rattle.records.specs.Layout.{header_of};
 ghost use Rattle.spool.specs.Open.{open_fault};
 ghost use Rattle.spool.specs.Find.{record_at, frame_fault};
 ghost use Rattle.layout.specs.LayOut.{all_pixels};
-ghost use Rattle.layout.specs.HowLaidOut.{state_of, walked};
+ghost use Rattle.layout.specs.HowLaidOut.{state_of, starts, walked};
 ghost use Rattle.relayout.specs.Relayout.{records_of, frames_say, relayout_says, pixels_of, relaid};
-ghost use Rattle.relayout.specs.HowCarried.{over, Written};
+ghost use Rattle.relayout.specs.HowCarried.{IsFrame, over};
 ghost use Rattle.relayout.specs.Carried.{Carried};
 
-use layout::{Progress, ready, visit};
-use records::{layout_of, other_layout, pixel_bytes};
-use refusal::Answer;
-use spool::{Found, Opened, frame_at, open, pixels};
+use layout::{ready, visit};
+use records::{FrameRecord, Layout, layout_of, other_layout, pixel_bytes};
+use refusal::{Answer, Fault};
+use spool::{frame_at, open, pixels};
 
-// The frames of an open spool: the first one at fault, or the bytes of all their pixels.
-fn check_frames(file: &[u8], count: usize) -> Answer
-    requires { (open_fault file.now ≡ sound) × (count ≡ (header_of file.now).count) }
-    ensures { said result ≡ frames_say file.now (accepted (all_pixels (records_of file.now))) count 0 }
-{
-    let mut total: usize = 0;
-    let mut k: usize = 0;
-    while k < count {
-        match frame_at(file, k, false) {
-            Found::Frame(strided) => {
-                total = total + pixel_bytes(strided.frame);
-            }
-            Found::Refused(refusal) => {
-                return Answer::RefusedAt(refusal, k);
-            }
+// A file that opens, with what its header says.
+#[derive(Clone, Copy)]
+struct OpenSpool<'a> {
+    file: &'a [u8],
+    count: usize,
+    shop: u16,
+    ghost opens: { open_fault file.now ≡ sound },
+    ghost counted: { count ≡ (header_of file.now).count },
+    ghost owned: { shop ≡ (header_of file.now).shop },
+}
+
+impl<'a> OpenSpool<'a> {
+    // The record of a frame whose rows have no gaps, or what is at fault with it.
+    fn frame(&self, k: usize) -> Result<FrameRecord, Fault>
+        requires { k < self.now.count }
+        ensures { IsFrame self.now.file.now k result }
+    {
+        match frame_at(self.file, k, false) {
+            Ok(strided) => Ok(strided.frame),
+            Err(refusal) => Err(refusal.at(k)),
         }
-        k = k + 1;
     }
-    Answer::Done(total)
-}
 
-// Writes the table of an open spool whose frames are sound, so that none of them is refused here.
-fn write_table(file: &[u8], count: usize, start: Progress, dst: &mut [u8]) -> Progress
-    requires file_value { (open_fault file.now ≡ sound) × (count ≡ (header_of file.now).count) }
-    requires by_index { (k : ℕ) → k < count → frame_fault false file.now (record_at file.now k) ≡ sound }
-    ensures { state_of result dst.new ≡ walked (records_of file.now) 0 (state_of start dst.old) }
-{
-    let mut progress = start;
-    let mut k: usize = 0;
-    while k < count {
-        match frame_at(file, k, false) {
-            Found::Frame(strided) => {
-                progress = visit(dst, progress, k, strided.frame);
-            }
-            Found::Refused(_) => {
-                return progress;
-            }
+    // The frames: the first one at fault, or the bytes of all their pixels.
+    fn check_frames(&self) -> Answer
+        ensures { said result ≡ frames_say self.now.file.now (accepted (all_pixels (records_of self.now.file.now))) self.now.count 0 }
+    {
+        let mut sum = 0;
+        for k in 0..self.count {
+            sum += pixel_bytes(self.frame(k)?);
         }
-        k = k + 1;
+        Ok(sum)
     }
-    progress
-}
 
-// Copies the pixels of an open spool's frames, one frame after another, from `first` on.
-fn copy_pixels(file: &[u8], count: usize, first: usize, dst: &mut [u8])
-    requires count_value { count ≡ (header_of file.now).count }
-    requires file_in_bounds { first + length (pixels_of file.now) ≤ length dst.old }
-    ensures { dst.new ≡ over dst.old first (pixels_of file.now) }
-{
-    let mut end = first;
-    let mut k: usize = 0;
-    while k < count {
-        let part = pixels(file, k);
-        dst[end..end + part.len()].copy_from_slice(part);
-        end = end + part.len();
-        k = k + 1;
+    // Writes the table of sound frames, so that none of them is refused here.
+    fn write_table(&self, layout: Layout, first: usize, dst: &mut [u8]) -> Answer
+        requires frames_sound { (k : ℕ) → k < self.now.count → frame_fault false self.now.file.now (record_at self.now.file.now k) ≡ sound }
+        ensures { state_of result dst.new ≡ walked layout (records_of self.now.file.now) 0 (starts first dst.old) }
+    {
+        let mut end = first;
+        for k in 0..self.count {
+            let frame = self.frame(k)?;
+            end = visit(dst, layout, end, k, frame)?;
+        }
+        Ok(end)
     }
-}
 
-// Writes the table and copies the pixels of an open spool whose frames are sound, from `first` on.
-fn write_frames(file: &[u8], count: usize, first: usize, start: Progress, dst: &mut [u8]) -> Answer
-    requires file_value { (open_fault file.now ≡ sound) × (count ≡ (header_of file.now).count) }
-    requires by_index { (k : ℕ) → k < count → frame_fault false file.now (record_at file.now k) ≡ sound }
-    requires file_in_bounds { first + length (pixels_of file.now) ≤ length dst.old }
-    ensures { Written file.now first (state_of start dst.old) (said result) dst.new }
-{
-    let ended = write_table(file, count, start, dst);
-    copy_pixels(file, count, first, dst);
-    ended.answer
-}
+    // Copies the frames' pixels, one frame after another, from `first` on.
+    fn copy_pixels(&self, first: usize, dst: &mut [u8])
+        requires pixels_fit { first + length (pixels_of self.now.file.now) ≤ length dst.old }
+        ensures { dst.new ≡ over dst.old first (pixels_of self.now.file.now) }
+    {
+        let mut at = first;
+        for k in 0..self.count {
+            let part = pixels(self.file, k);
+            dst[at..at + part.len()].copy_from_slice(part);
+            at += part.len();
+        }
+    }
 
-// Carries an open spool to the other layout.
-fn carry(file: &[u8], count: usize, shop: u16, dst: &mut [u8]) -> Answer
-    requires { (open_fault file.now ≡ sound) × (count ≡ (header_of file.now).count) × (shop ≡ (header_of file.now).shop) }
-    ensures answer { said result ≡ relayout_says file.now (length dst.old) }
-    ensures bytes { dst.new ≡ leaves (relayout_says file.now (length dst.old)) (relaid file.now) dst.old }
-{
-    let layout = other_layout(layout_of(file));
-    let answer = check_frames(file, count);
-    let checked = Progress {
-        writing: false,
-        answer,
-        layout,
-    };
-    let begun = ready(checked, count, shop, dst);
-    let answer = begun.answer;
-    match answer {
-        Answer::Done(first) => write_frames(file, count, first, begun, dst),
-        Answer::Refused(_) => answer,
-        Answer::RefusedAt(_, _) => answer,
+    // Carries the spool to the other layout.
+    fn carry(&self, dst: &mut [u8]) -> Answer
+        ensures answer { said result ≡ relayout_says self.now.file.now (length dst.old) }
+        ensures bytes { dst.new ≡ leaves (relayout_says self.now.file.now (length dst.old)) (relaid self.now.file.now) dst.old }
+    {
+        let layout = other_layout(layout_of(self.file));
+        let checked = self.check_frames();
+        let first = ready(layout, self.count, self.shop, checked, dst)?;
+        let total = self.write_table(layout, first, dst)?;
+        self.copy_pixels(first, dst);
+        Ok(total)
     }
 }
 
@@ -119,8 +100,11 @@ pub fn relayout(file: &[u8], dst: &mut [u8]) -> Answer
     ensures bytes { dst.new ≡ leaves (relayout_says file.now (length dst.old)) (relaid file.now) dst.old }
     ensures carried { Carried file.now (said result) dst.new }
 {
-    match open(file) {
-        Opened::Refused(refusal) => Answer::Refused(refusal),
-        Opened::Spool(contents) => carry(file, contents.count as usize, contents.shop, dst),
-    }
+    let contents = open(file)?;
+    let spool = OpenSpool {
+        file,
+        count: usize::from(contents.count),
+        shop: contents.shop,
+    };
+    spool.carry(dst)
 }

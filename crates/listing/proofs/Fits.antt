@@ -82,9 +82,9 @@ listing_short file all = by_length (ltb input_limit (length file)) where
   by_length true = simp length-append (omega (arith, decimal_short 1 15 (omega arith)))
   by_length false = by_fault (open_fault file) refl (open_fault_short file)
 
--- What a listing leaves in a buffer, and all of it where there is room for every listing.
-pub answers : (file d : List ℕ) → AllBytes file → (z : Buffer) → z ≡ put_text (record { bytes = d; at = 0 }) (listing file)
-    → (z ≡ put_text (record { bytes = d; at = 0 }) (listing file)) × ((z.at ≤ length z.bytes) × (listing_room ≤ length d → take z.at z.bytes ≡ listing file))
-answers file d all z e =
+-- A listing in a buffer ends within it, and all of it is there where there is room for every listing.
+pub in_buffer : (file d : List ℕ) → AllBytes file → (z : Buffer) → z ≡ put_text (record { bytes = d; at = 0 }) (listing file)
+    → (z.at ≤ length z.bytes) × (listing_room ≤ length d → take z.at z.bytes ≡ listing file)
+in_buffer file d all z e =
     let end = ends d (listing file) z e in
-    (end.0, (end.1, λ room. end.2 (omega (arith, listing_short file all))))
+    (end.0, λ room. end.1 (omega (arith, listing_short file all)))

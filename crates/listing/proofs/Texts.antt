@@ -1,16 +1,18 @@
--- Laws of text: one text after another, and the digits of a number.
+-- Laws of text: one text after another, a text of which a part is left, and the digits of a number.
 -- Assumes nothing.
 use Prim.Native.Nat.{ℕ, zero, suc, ◌+◌, ◌/◌, ◌%◌, ◌≤◌, ◌<◌, zero-le}
 use native.Mathlib.Nat.{mod-eq_of_lt}
 use native.Mathlib.Numerals.{add-one}
 use native.Mathlib.Omega.{arith}
-use mathlib.Core.Path.{◌≡◌, refl, sym, ap, ◌∙◌}
+use mathlib.Core.Path.{◌≡◌, refl, sym, ap, subst, ◌∙◌}
 use mathlib.Core.Bool.{Bool, true, false}
 use mathlib.Core.List.{List, [], ◌∷◌, ◌++◌, append_assoc, append-nil}
 use lib.Dec.{ltb}
-use lib.ListN.{length, take, drop, set, get_or, drop_of_length-le, length-set}
+use lib.ListN.{length, take, drop, set, get_or, length-set}
 use lib.Seq.{drop-cons, take-suc-set}
 use borrow.Author.Tests.{lt-ltb, le-ltb, ltb-true, ltb-false}
+use Rattle.listing.specs.declared.Text.{Text}
+use Rattle.listing.specs.Adding.{shown, Adds}
 use Rattle.listing.specs.Text.{digits, decimal, Buffer, put, put_text}
 
 pub written_append : (b : Buffer) (xs ys : List ℕ) → put_text b (xs ++ ys) ≡ put_text (put_text b xs) ys
@@ -18,12 +20,36 @@ unfolding put_text
 written_append b [] ys = refl
 written_append b (x ∷ xs) ys = written_append (put b x) xs ys
 
--- A text written after another, and after a field.
-pub text_then : (b : Buffer) (xs ys : List ℕ) {b' z : Buffer} → b' ≡ put_text b xs → z ≡ put_text b' ys → z ≡ put_text b (xs ++ ys)
-text_then b xs ys p q = q ∙ ap (λ (x : Buffer). put_text x ys) p ∙ sym (written_append b xs ys)
+-- One text added after another.
+pub both : {t t' t'' : Text} {xs ys : List ℕ} → Adds t xs t' → Adds t' ys t'' → Adds t (xs ++ ys) t''
+both {t} {xs = xs} {ys = ys} first second = record {
+  same = second.same ∙ first.same;
+  text = second.text ∙ ap (λ (b : Buffer). put_text b ys) first.text ∙ sym (written_append (shown t) xs ys);
+}
 
-pub field_then : (b : Buffer) (n e : ℕ) (rest : List ℕ) {b' z : Buffer} → b' ≡ put_text b (decimal n ++ (e ∷ [])) → z ≡ put_text b' rest → z ≡ put_text b (decimal n ++ (e ∷ rest))
-field_then b n e rest p q = text_then b (decimal n ++ (e ∷ [])) rest p q ∙ ap (put_text b) (append_assoc (decimal n) (e ∷ []) rest)
+-- A field and what comes after it.
+pub field_then : {t t' t'' : Text} (n e : ℕ) (rest : List ℕ) → Adds t (decimal n ++ (e ∷ [])) t' → Adds t' rest t'' → Adds t (decimal n ++ (e ∷ rest)) t''
+field_then {t} {t'' = t''} n e rest first second =
+    subst (λ (xs : List ℕ). Adds t xs t'') (append_assoc (decimal n) (e ∷ []) rest) (both first second)
+
+-- A text that is being added, with what is left of it.
+pub record Leaves (start : Text) (whole : List ℕ) (t : Text) (rest : List ℕ) : Type 0 where
+  pub same : t.bytes.ghost_name ≡ start.bytes.ghost_name
+  pub text : put_text (shown t) rest ≡ put_text (shown start) whole
+
+pub more : {start t t' : Text} {whole rest : List ℕ} (part rest' : List ℕ) → Leaves start whole t rest → Adds t part t' → rest ≡ part ++ rest' → Leaves start whole t' rest'
+more {t = t} part rest' left added e = record {
+  same = added.same ∙ left.same;
+  text =
+      ap (λ (b : Buffer). put_text b rest') added.text
+      ∙ sym (written_append (shown t) part rest')
+      ∙ ap (put_text (shown t)) (sym e)
+      ∙ left.text;
+}
+
+pub all_added : {start t : Text} {whole rest : List ℕ} → Leaves start whole t rest → rest ≡ [] → Adds start whole t
+unfolding put_text
+all_added {t = t} left e = record { same = left.same; text = ap (put_text (shown t)) (sym e) ∙ left.text }
 
 -- A text ends within the buffer.
 put-within : (b : Buffer) (x : ℕ) → b.at ≤ length b.bytes → (put b x).at ≤ length (put b x).bytes
@@ -52,19 +78,13 @@ written_whole (x ∷ xs) b h =
     ∙ append_assoc (take b.at b.bytes) (x ∷ []) xs
 
 pub ends : (d xs : List ℕ) (z : Buffer) → z ≡ put_text (record { bytes = d; at = 0 }) xs
-    → (z ≡ put_text (record { bytes = d; at = 0 }) xs) × (z.at ≤ length z.bytes) × (length xs ≤ length d → take z.at z.bytes ≡ xs)
+    → (z.at ≤ length z.bytes) × (length xs ≤ length d → take z.at z.bytes ≡ xs)
 ends d xs z e =
-    (e, rw e (written_within xs (record { bytes = d; at = 0 }) zero-le), λ room. rw e (written_whole xs (record { bytes = d; at = 0 }) (omega arith)))
+    (rw e (written_within xs (record { bytes = d; at = 0 }) zero-le), λ room. rw e (written_whole xs (record { bytes = d; at = 0 }) (omega arith)))
 
--- A text of which i bytes are written.
-module _ (text : List ℕ) (i : ℕ) (b : Buffer) where
-  pub one_more : i < length text → put_text b (drop i text) ≡ put_text (put b (get_or text i 0)) (drop (i + 1) text)
-  unfolding put_text
-  one_more l = ap (put_text b) (drop-cons text i 0 l) ∙ ap (λ (k : ℕ). put_text (put b (get_or text i 0)) (drop k text)) (sym (add-one i))
-
-  pub none_left : length text ≤ i → put_text b (drop i text) ≡ b
-  unfolding put_text
-  none_left l = ap (put_text b) (drop_of_length-le text l)
+-- A text from byte i on.
+pub byte_first : (text : List ℕ) (i : ℕ) → i < length text → drop i text ≡ (get_or text i 0 ∷ []) ++ drop (i + 1) text
+byte_first text i l = drop-cons text i 0 l ∙ ap (λ (k : ℕ). get_or text i 0 ∷ drop k text) (sym (add-one i))
 
 -- The bound on the digits does not matter, where it is above the number.
 same_digits : (f g n : ℕ) → n < f → n < g → digits f n ≡ digits g n

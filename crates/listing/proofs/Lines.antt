@@ -6,11 +6,11 @@ use mathlib.Core.Path.{◌≡◌, sym, ap, ◌∙◌}
 use mathlib.Core.List.{List, [], ◌∷◌, ◌++◌, append_assoc}
 use lib.ListN.{length, drop, get_or, drop_of_length-le}
 use lib.Seq.{drop-cons}
-use borrow.Author.Tests.{lt-ltb, le-ltb}
+use borrow.Author.Tests.{le-ltb}
 use Rattle.spool.specs.Open.{OpenSaid, open_says}
 use Rattle.spool.specs.Find.{find_says}
 use Rattle.listing.specs.Text.{decimal}
-use Rattle.listing.specs.Listing.{refused_word, fields, line, lines, spool_text, listing, input_limit}
+use Rattle.listing.specs.Listing.{fields, line, lines, spool_text, listing, input_limit}
 use Rattle.listing.proofs.Texts.{byte_first}
 
 -- The lines from frame k on begin with its own.
@@ -26,10 +26,7 @@ no_lines file count k past =
     let none : count - k ≡ 0 = omega arith in
     rw none
 
--- The listing, by the file's length and the answer of Open.
-pub too_long : (file : List ℕ) → input_limit < length file → listing file ≡ refused_word ++ fields (15 ∷ [])
-too_long file h = rw (lt-ltb _ _ h)
-
+-- The listing of a file that is not too long, by the answer of Open.
 pub by_answer : (file : List ℕ) (s : OpenSaid) → length file ≤ input_limit → s ≡ open_says file → listing file ≡ spool_text file s
 by_answer file s h e = rw (le-ltb _ _ h, ← e)
 

@@ -12,7 +12,7 @@ ghost use Rattle.listing.specs.Listing.{refused_word, fields, line, lines, listi
 
 use records::{FRAME_LIMIT, StridedRecord};
 use refusal::{Refusal, number};
-use spool::{Found, Opened, find, open};
+use spool::{Found, find, open};
 
 // The longest file that is listed.
 pub const INPUT_LIMIT: usize = 65536;
@@ -115,8 +115,8 @@ impl Text<'_> {
         ensures { Adds self.old (line frame (find_said found)) self.new }
     {
         match found {
-            Found::Frame(strided) => self.put_frame(frame, strided),
-            Found::Refused(refusal) => {
+            Ok(strided) => self.put_frame(frame, strided),
+            Err(refusal) => {
                 self.put_field(frame, b' ');
                 self.put_refusal(refusal);
             }
@@ -140,8 +140,8 @@ impl Text<'_> {
             return self.put_refusal(Refusal::InputTooLong);
         }
         match open(file) {
-            Opened::Refused(refusal) => self.put_refusal(refusal),
-            Opened::Spool(contents) => {
+            Err(refusal) => self.put_refusal(refusal),
+            Ok(contents) => {
                 self.put_text(HEADING);
                 self.put_lines(file, contents.count as usize);
             }

@@ -9,11 +9,11 @@ ghost use Rattle.doubles.specs.Doubles.{nearest_whole};
 ghost use Rattle.doubles.specs.HowWhole.{nearest_size};
 
 // Neither infinite nor not a number.
+#[tactic(auto, using(crate::proofs::Whole::finite_is))]
 pub fn is_finite(x: f64) -> bool
     ensures { result ≡ finite x }
 {
-    let infinity = 1.0 / 0.0;
-    if x < infinity { -infinity < x } else { false }
+    x.is_finite()
 }
 
 // The whole number nearest to x, ties upward, clipped to -below..above. Ties upward of a number below 0 are

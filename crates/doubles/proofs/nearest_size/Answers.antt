@@ -1,16 +1,7 @@
 -- `doubles::nearest_size` meets its contract.
-use Rattle.std.proofs.Common.{◌<◌, true, false, arith, rules}
-use Rattle.doubles.proofs.Whole.{Inside, inside, in_range, n_less, up_rounds, down_rounds, at_top, at_zero}
+use Rattle.std.proofs.Common.{true, false, arith, rules}
+use Rattle.doubles.proofs.Whole.{in_range, n_less, up_rounds, down_rounds, at_top, at_zero}
 use Rattle.doubles.proofs.nearest_size.Goals as goal
-use Rattle.doubles.proofs.nearest_size.Goals.{After-truncating_f64_to_u64-whole}
-
--- Where the whole part is known.
-module _ (c : After-truncating_f64_to_u64-whole) where
-  between : Inside c.args.top c.args.x
-  between = inside _ _ (search rules) c.if-not-x.false c.if-not-x-top.false
-
-  less : c.truncating_f64_to_u64-whole.result < c.args.top
-  less = n_less _ _ (search rules) between _ c.truncating_f64_to_u64-whole.ensures
 
 pub returns-then-not-x : goal.returns-then-not-x
 returns-then-not-x c = at_zero _ _ _ c.if-not-x.true
@@ -20,40 +11,33 @@ returns-then-not-x-top c = at_top _ _ _ (search rules) c.if-not-x.false c.if-not
 
 pub truncating_f64_to_u64-whole-requires : goal.truncating_f64_to_u64-whole-requires
 truncating_f64_to_u64-whole-requires c =
-    let p = in_range _ _ (search rules) (inside _ _ (search rules) c.if-not-x.false c.if-not-x-top.false) in
+    let p = in_range _ _ (search rules) c.if-not-x.false c.if-not-x-top.false in
     record { lower_bound = p.0; upper_bound = p.1 }
 
 pub overflow_cast-whole : goal.overflow_cast-whole
-overflow_cast-whole c = omega (arith, less c)
+overflow_cast-whole c =
+    omega (arith, n_less _ _ (search rules) c.if-not-x.false c.if-not-x-top.false _ c.truncating_f64_to_u64-whole.ensures)
 
 pub overflow_add-result : goal.overflow_add-result
 overflow_add-result c =
-    let between : Inside c.args.top c.args.x = inside _ _ (search rules) c.if-not-x.false c.if-not-x-top.false in
-    let less : c.truncating_f64_to_u64-whole.result < c.args.top = n_less _ _ (search rules) between _ c.truncating_f64_to_u64-whole.ensures in
-    omega (arith, less)
+    omega (arith, n_less _ _ (search rules) c.if-not-x.false c.if-not-x-top.false _ c.truncating_f64_to_u64-whole.ensures)
 
 pub overflow_add-result-then-halfway-x : goal.overflow_add-result-then-halfway-x
 overflow_add-result-then-halfway-x c =
-    let between : Inside c.args.top c.args.x = inside _ _ (search rules) c.if-not-x.false c.if-not-x-top.false in
-    let less : c.truncating_f64_to_u64-whole.result < c.args.top = n_less _ _ (search rules) between _ c.truncating_f64_to_u64-whole.ensures in
-    omega (arith, less)
+    omega (arith, n_less _ _ (search rules) c.if-not-x.false c.if-not-x-top.false _ c.truncating_f64_to_u64-whole.ensures)
 
 pub returns-then-x-halfway : goal.returns-then-x-halfway
 returns-then-x-halfway c =
-    let between : Inside c.args.top c.args.x = inside _ _ (search rules) c.if-not-x.false c.if-not-x-top.false in
-    up_rounds _ _ (search rules) between _ c.truncating_f64_to_u64-whole.ensures _ c.in-Up.is true c.if-x-halfway.true
+    up_rounds _ _ (search rules) c.if-not-x.false c.if-not-x-top.false _ c.truncating_f64_to_u64-whole.ensures _ c.in-Up.is true c.if-x-halfway.true
 
 pub returns-else-x-halfway : goal.returns-else-x-halfway
 returns-else-x-halfway c =
-    let between : Inside c.args.top c.args.x = inside _ _ (search rules) c.if-not-x.false c.if-not-x-top.false in
-    up_rounds _ _ (search rules) between _ c.truncating_f64_to_u64-whole.ensures _ c.in-Up.is false c.if-x-halfway.false
+    up_rounds _ _ (search rules) c.if-not-x.false c.if-not-x-top.false _ c.truncating_f64_to_u64-whole.ensures _ c.in-Up.is false c.if-x-halfway.false
 
 pub returns-then-halfway-x : goal.returns-then-halfway-x
 returns-then-halfway-x c =
-    let between : Inside c.args.top c.args.x = inside _ _ (search rules) c.if-not-x.false c.if-not-x-top.false in
-    down_rounds _ _ (search rules) between _ c.truncating_f64_to_u64-whole.ensures _ c.in-Down.is true c.if-halfway-x.true
+    down_rounds _ _ (search rules) c.if-not-x.false c.if-not-x-top.false _ c.truncating_f64_to_u64-whole.ensures _ c.in-Down.is true c.if-halfway-x.true
 
 pub returns-else-halfway-x : goal.returns-else-halfway-x
 returns-else-halfway-x c =
-    let between : Inside c.args.top c.args.x = inside _ _ (search rules) c.if-not-x.false c.if-not-x-top.false in
-    down_rounds _ _ (search rules) between _ c.truncating_f64_to_u64-whole.ensures _ c.in-Down.is false c.if-halfway-x.false
+    down_rounds _ _ (search rules) c.if-not-x.false c.if-not-x-top.false _ c.truncating_f64_to_u64-whole.ensures _ c.in-Down.is false c.if-halfway-x.false

@@ -4,11 +4,9 @@
 ghost use Rattle.std.specs.Prelude.{◌≡◌};
 ghost use Rattle.transfer.specs.HowTabled.{group_of, StartTable};
 
-use numbers::lower;
-
 const LAST_GROUP: u32 = 1267;
 
-const STARTS: [u16; 1268] = [
+static STARTS: [u16; 1268] = [
     0, 7, 13, 20, 27, 34, 40, 47, 54, 61, 67, 74, 81, 88, 94, 100, 106, 111, 117, 122, 127, 132,
     136, 141, 146, 150, 154, 159, 163, 167, 171, 175, 179, 182, 186, 190, 193, 197, 200, 203, 207,
     210, 213, 217, 220, 223, 226, 229, 232, 235, 238, 241, 244, 247, 249, 252, 255, 258, 260, 263,
@@ -85,16 +83,15 @@ const STARTS: [u16; 1268] = [
     2544, 2545, 2547, 2548, 2549, 2551, 2552, 2553, 2555, 2556, 2558,
 ];
 
-// An operation calls this once, and lends the table to its loop: see light_table.
-pub fn start_table() -> [u16; 1268]
-    ensures { StartTable 10 result × StartTable 12 result }
+pub fn start_table() -> &'static [u16; 1268]
+    ensures { StartTable 10 result.now × StartTable 12 result.now }
 {
-    STARTS
+    &STARTS
 }
 
 // The group of a light. Near black groups are small, since a level has few lights there.
 pub fn group_of(light: u32) -> usize
     ensures { result ≡ group_of light }
 {
-    lower(lower(light / 256, 448 + light / 2048), LAST_GROUP) as usize
+    (light / 256).min(448 + light / 2048).min(LAST_GROUP) as usize
 }

@@ -3,7 +3,7 @@
 // defines. The numbers can be made again by bisecting its power test for each level.
 ghost use Rattle.transfer.specs.HowTabled.{LightTable};
 
-const LIGHTS: [u32; 2561] = [
+static LIGHTS: [u32; 2561] = [
     0, 38, 76, 114, 152, 190, 228, 266, 304, 341, 379, 417, 455, 493, 531, 569, 607, 645, 683, 721,
     759, 797, 835, 873, 911, 949, 986, 1024, 1062, 1100, 1138, 1176, 1214, 1252, 1290, 1328, 1366,
     1404, 1442, 1480, 1518, 1556, 1594, 1631, 1669, 1707, 1745, 1783, 1821, 1859, 1897, 1935, 1973,
@@ -221,10 +221,8 @@ const LIGHTS: [u32; 2561] = [
     1677980, 1679489, 1680998,
 ];
 
-// A constant that is an array is built anew wherever it is named. So an operation calls this once,
-// and lends the table to its loop.
-pub fn light_table() -> [u32; 2561]
-    ensures { LightTable result }
+pub fn light_table() -> &'static [u32; 2561]
+    ensures { LightTable result.now }
 {
-    LIGHTS
+    &LIGHTS
 }

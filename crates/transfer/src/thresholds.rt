@@ -1,9 +1,14 @@
 // The tables of thresholds: by level, the least light whose level is that or a greater one. Every
 // entry is proved to be that of specs/Level.antt. The numbers can be made again by bisecting its
 // definition of a light's level for each level.
+ghost use Rattle.std.specs.Prelude.{◌≡◌, true, false, MatchOption};
+ghost use Rattle.esrgb.specs.Depths.{bits};
+ghost use Rattle.transfer.specs.Level.{offers_codes};
 ghost use Rattle.transfer.specs.HowTabled.{ThresholdTable};
 
-const AT_TEN: [u32; 640] = [
+use esrgb::Depth;
+
+static AT_TEN: [u32; 640] = [
     0, 76, 228, 380, 532, 683, 835, 987, 1139, 1290, 1442, 1594, 1746, 1898, 2049, 2201, 2353,
     2505, 2656, 2808, 2960, 3112, 3267, 3428, 3593, 3762, 3936, 4115, 4299, 4487, 4679, 4877, 5079,
     5286, 5498, 5715, 5937, 6163, 6395, 6632, 6873, 7120, 7372, 7629, 7891, 8158, 8430, 8708, 8991,
@@ -60,7 +65,7 @@ const AT_TEN: [u32; 640] = [
     1647975, 1653951, 1659939, 1665940, 1671954,
 ];
 
-const AT_TWELVE: [u32; 2560] = [
+static AT_TWELVE: [u32; 2560] = [
     0, 19, 57, 95, 133, 171, 209, 247, 285, 323, 361, 399, 437, 475, 513, 551, 589, 627, 664, 702,
     740, 778, 816, 854, 892, 930, 968, 1006, 1044, 1082, 1120, 1158, 1196, 1234, 1272, 1309, 1347,
     1385, 1423, 1461, 1499, 1537, 1575, 1613, 1651, 1689, 1727, 1765, 1803, 1841, 1879, 1917, 1954,
@@ -278,15 +283,13 @@ const AT_TWELVE: [u32; 2560] = [
     1678735,
 ];
 
-// An operation calls one of these once, and lends the table to its loop: see light_table.
-pub fn thresholds_at_ten() -> [u32; 640]
-    ensures { ThresholdTable 10 result }
+// The thresholds of a depth. Light has no codes of 16 bits, and so these have none.
+pub fn thresholds_of(depth: Depth) -> Option<&'static [u32]>
+    ensures { MatchOption result (offers_codes (bits depth) ≡ false) (λ thresholds. (offers_codes (bits depth) ≡ true) × ThresholdTable (bits depth) thresholds.now) }
 {
-    AT_TEN
-}
-
-pub fn thresholds_at_twelve() -> [u32; 2560]
-    ensures { ThresholdTable 12 result }
-{
-    AT_TWELVE
+    match depth {
+        Depth::Ten => Some(&AT_TEN),
+        Depth::Twelve => Some(&AT_TWELVE),
+        Depth::Sixteen => None,
+    }
 }

@@ -1,59 +1,61 @@
--- The search for a level: a window of levels that each look at a threshold narrows. k is the step of a depth.
+-- The search for a level: a window of levels that each look at a threshold narrows.
 -- Assumes nothing.
-use Prim.Native.Nat.{ℕ, ◌+◌, ◌-◌, ◌*◌, ◌<◌, ◌≤◌, min}
-use mathlib.Core.Path.{◌≡◌, refl, ap}
+use Prim.Native.Nat.{ℕ, zero, suc, ◌+◌, ◌-◌, ◌*◌, ◌/◌, ◌^◌, ◌<◌, ◌≤◌, min}
+use mathlib.Core.Path.{◌≡◌, refl}
 use mathlib.Core.Bool.{Bool, true, false, cond}
-use mathlib.Core.List.{List}
+use mathlib.Core.List.{List, [], ◌∷◌}
 use native.Mathlib.Omega.{arith}
+use native.Mathlib.Nat.{mul-one, mul-zero}
 use borrow.Author.Tests.{leb-true, leb-false}
 use lib.Dec.{leb}
-use lib.ListN.{length, get_or}
-use Rattle.esrgb.specs.Depths.{step, scale}
-use Rattle.esrgb.proofs.Scale.{Scale}
+use lib.ListN.{get_or}
+use mir.Val.{bool_byte}
+use Rattle.esrgb.specs.Depths.{scale}
 use Rattle.transfer.specs.Level.{level_of_light}
-use Rattle.transfer.specs.HowTabled.{levels, few_levels, start_of, ThresholdTable, StartTable}
+use Rattle.transfer.specs.HowTabled.{levels, few_levels, ThresholdTable}
 
 -- The level looked for: that of the light, at most the greatest of a code.
 abbrev pub found : ℕ → ℕ → ℕ
-found k light = min (level_of_light (255 * k) light) (320 * k - 1)
+found n light = min (level_of_light (scale n) light) (levels n - 1)
 
 -- What is looked for is from level on, and below level + width.
-pub record Window (k light level width : ℕ) : Type 0 where
-  pub low : level ≤ found k light
-  pub high : found k light < level + width
-  pub inside : level + width ≤ 320 * k
+pub record Window (n light level width : ℕ) : Type 0 where
+  pub low : level ≤ found n light
+  pub high : found n light < level + width
+  pub inside : level + width ≤ levels n
 
-module _ (n k : ℕ) (s : Scale n) (e : k ≡ step n) (thresholds : List ℕ) (table : ThresholdTable n thresholds) (light : ℕ) where
-  same_level : level_of_light (255 * k) light ≡ level_of_light (scale n) light
-  same_level = ap (λ (x : ℕ). level_of_light (255 * x) light) e
+-- What each turn looks across: half of what is left.
+abbrev pub halves : List ℕ
+halves = 4 ∷ 2 ∷ 1 ∷ []
 
-  pub long : length thresholds ≡ 320 * k
-  long = omega (arith, table.long)
-
+module _ (n light : ℕ) (thresholds : List ℕ) (table : ThresholdTable n thresholds) where
   -- A look at the threshold of level + half: the levels before it go, or those from it on.
   look_by :
-      (level width half at : ℕ) → Window k light level width → 2 * half ≤ width → at ≡ level + half
-      → (b : Bool) → leb (get_or thresholds at 0) light ≡ b → Window k light (level + cond b half 0) (width - half)
-  look_by level width half at w h i true t =
-      let from = (table.at at (omega arith)).from light (leb-true _ _ t) in
-      record { low = omega (arith, same_level); high = omega arith; inside = omega arith }
-  look_by level width half at w h i false t =
-      let below = (table.at at (omega arith)).below light (leb-false _ _ t) in
-      record { low = omega arith; high = omega (arith, same_level); inside = omega arith }
+      (level width half : ℕ) → Window n light level width → 2 * half ≤ width → 0 < half
+      → (b : Bool) → leb (get_or thresholds (level + half) 0) light ≡ b → Window n light (level + cond b half 0) (width - half)
+  look_by level width half w h some true t =
+      let from = (table.at (level + half) (omega arith)).from light (leb-true _ _ t) in
+      record { low = omega arith; high = omega arith; inside = omega arith }
+  look_by level width half w h some false t =
+      let below = (table.at (level + half) (omega arith)).below light (leb-false _ _ t) in
+      record { low = omega arith; high = omega arith; inside = omega arith }
 
-  pub look :
-      (level width half at passed : ℕ) → Window k light level width → 2 * half ≤ width → at ≡ level + half
-      → passed ≡ cond (leb (get_or thresholds at 0) light) half 0 → Window k light (level + passed) (width - half)
-  look level width half at passed w h i p = rw p (look_by level width half at w h i (leb (get_or thresholds at 0) light) refl)
+  look :
+      (level width half reached : ℕ) → Window n light level width → 2 * half ≤ width → 0 < half
+      → reached ≡ bool_byte (leb (get_or thresholds (level + half) 0) light) → Window n light (level + half * reached) (width - half)
+  look level width half reached w h some r =
+      rw (r, all_or_none half (leb (get_or thresholds (level + half) 0) light)) (look_by level width half w h some (leb (get_or thresholds (level + half) 0) light) refl)
+    where
+      all_or_none : (half : ℕ) (b : Bool) → half * bool_byte b ≡ cond b half 0
+      all_or_none half true = mul-one half
+      all_or_none half false = mul-zero half
 
-  -- The start leaves few levels.
-  window_from :
-      (level : ℕ) → level ≤ level_of_light (scale n) light → min (level_of_light (scale n) light) (levels n - 1) < level + few_levels → level ≤ 320 * k - few_levels
-      → Window k light level few_levels
-  window_from level low high last = record { low = omega (arith, same_level); high = omega (arith, same_level); inside = omega arith }
-
-  pub from_start : (starts : List ℕ) → StartTable n starts → (level : ℕ) → level ≡ start_of k starts light → Window k light level few_levels
-  from_start starts t level p = rw p (window_from (start_of k starts light) (rw e (t.low light)) (rw e (t.high light)) (omega arith))
-
-  pub one_level : (level width : ℕ) → Window k light level width → width ≤ 1 → level ≡ min (level_of_light (scale n) light) (levels n - 1)
-  one_level level width w h = omega (arith, same_level)
+  -- The three turns.
+  pub turn :
+      (level i reached : ℕ) → i < 3 → Window n light level (few_levels / 2 ^ i)
+      → reached ≡ bool_byte (leb (get_or thresholds (level + get_or halves i 0) 0) light)
+      → Window n light (level + get_or halves i 0 * reached) (few_levels / 2 ^ (i + 1))
+  turn level zero reached h w r = look level 8 4 reached w (omega arith) (omega arith) r
+  turn level (suc zero) reached h w r = look level 4 2 reached w (omega arith) (omega arith) r
+  turn level (suc (suc zero)) reached h w r = look level 2 1 reached w (omega arith) (omega arith) r
+  turn level (suc (suc (suc i))) reached h w r = absurd (omega arith)

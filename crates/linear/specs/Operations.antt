@@ -1,6 +1,7 @@
 -- What the operations on buffers answer and write (rule 6.7).
 -- Assumes nothing.
-use Rattle.std.specs.Prelude.{ℕ, ◌/◌, true, false, cond, not, List, map, ltb, ℤ}
+use Rattle.std.specs.Prelude.{ℕ, ◌/◌, true, false, cond, not, List, map, ltb, ℤ, Result, Ok, Err}
+use Rattle.refusal.specs.declared.Refusal.{Refusal}
 use Rattle.refusal.specs.Refusals.{number_of}
 use Rattle.refusal.specs.Answers.{Said, accepted}
 use Rattle.samples.specs.declared.Coding.TheVariants.{Codes}
@@ -10,12 +11,6 @@ use Rattle.samples.specs.Faults.{in_order, source_says}
 use Rattle.esrgb.specs.Depths.{offered, greatest}
 use Rattle.transfer.specs.Light.{light_of_code}
 use Rattle.transfer.specs.Level.{offers_codes, code_of_light}
-use Rattle.linear.specs.declared.LightFound.{LightFound}
-use Rattle.linear.specs.declared.LightFound.TheVariants as light-found
-use Rattle.linear.specs.declared.LightFound.TheVariants.{Light}
-use Rattle.linear.specs.declared.CodeFound.{CodeFound}
-use Rattle.linear.specs.declared.CodeFound.TheVariants as code-found
-use Rattle.linear.specs.declared.CodeFound.TheVariants.{Code}
 
 -- Codes to light refuses as Convert does, in its order. The source is bytes, two to a sample, and the destination has `room`
 -- numbers, one to a sample.
@@ -43,16 +38,18 @@ pub data Single (A : Type 0) : Type 0 where
 abbrev pub light_says : ℕ → ℕ → Single ℤ
 light_says n code = cond (not (offered n)) (refuses 9) (cond (ltb (greatest n) code) (refuses 12) (gives (light_of_code n code)))
 
-abbrev pub light_said : LightFound → Single ℤ
-light_said (Light light) = gives light
-light_said (light-found.Refused r) = refuses (number_of r)
+abbrev pub single_said : {A : Type 0} → Result A Refusal → Single A
+single_said (Ok x) = gives x
+single_said (Err r) = refuses (number_of r)
+
+abbrev pub light_said : Result ℤ Refusal → Single ℤ
+light_said found = single_said found
 
 abbrev pub code_says : ℕ → ℤ → Single ℕ
 code_says n light = cond (not (offers_codes n)) (refuses 9) (gives (code_of_light n light))
 
-abbrev pub code_said : CodeFound → Single ℕ
-code_said (Code code) = gives code
-code_said (code-found.Refused r) = refuses (number_of r)
+abbrev pub code_said : Result ℕ Refusal → Single ℕ
+code_said found = single_said found
 
 -- Three lights as a pixel of 12-bit codes.
 abbrev pub pixel_of_light : ℤ → ℤ → ℤ → Pixel

@@ -21,22 +21,10 @@ pub fn through_light(
 ) -> Answer
     ensures { Through depth codes.now moves.now light.old light.new back.old back.new (said result) }
 {
-    let counted = count_through(depth, codes.len(), moves.len(), light.len(), back.len());
-    match counted {
-        Answer::Done(_) => {}
-        Answer::Refused(_) => return counted,
-        Answer::RefusedAt(_, _) => return counted,
-    }
-    let answer = code_to_light(depth, codes, light);
-    match answer {
-        Answer::Done(_) => {
-            add_moves(moves, light);
-            light_to_code(depth, light, back);
-        }
-        Answer::Refused(_) => {}
-        Answer::RefusedAt(_, _) => {}
-    }
-    answer
+    count_through(depth, codes.len(), moves.len(), light.len(), back.len())?;
+    code_to_light(depth, codes, light)?;
+    add_moves(moves, light);
+    light_to_code(depth, light, back)
 }
 
 // Depth and lengths: the number of pixels, or a refusal.
@@ -44,57 +32,28 @@ fn count_through(depth: u32, codes: usize, moves: usize, light: usize, back: usi
     ensures { said result ≡ refuses_or (through_fault depth codes moves light back) (accepted (codes / 6)) }
 {
     if !has_codes(depth) {
-        return Answer::Refused(Refusal::DepthNotOffered);
+        return Err(Refusal::DepthNotOffered.into());
     }
-    let counted = count_pixels(true, false, codes, light);
-    match counted {
-        Answer::Done(_) => {
-            if moves != light {
-                return Answer::Refused(Refusal::WrongDestinationLength);
-            }
-            if back != codes {
-                return Answer::Refused(Refusal::WrongDestinationLength);
-            }
-        }
-        Answer::Refused(_) => {}
-        Answer::RefusedAt(_, _) => {}
+    let pixels = count_pixels(true, false, codes, light)?;
+    if moves != light || back != codes {
+        return Err(Refusal::WrongDestinationLength.into());
     }
-    counted
+    Ok(pixels)
 }
 
 // Light has codes at 10 and 12 bits.
 fn has_codes(depth: u32) -> bool
     ensures { result ≡ offers_codes depth }
 {
-    depth == 10 || depth == 12
+    matches!(depth, 10 | 12)
 }
 
-// To each number of light its move.
+// To each number of light its move. A sum stops at the ends of 32 bits.
 fn add_moves(moves: &[i32], light: &mut [i32])
     requires { length moves.now ≡ length light.old }
     ensures { light.new ≡ zip_with moved light.old moves.now }
 {
-    let mut k = 0;
-    while k < light.len() {
-        light[k] = saturating_sum(light[k], moves[k]);
-        k += 1;
+    for (k, number) in light.iter_mut().enumerate() {
+        *number = number.saturating_add(moves[k]);
     }
-}
-
-const LEAST: i64 = -2147483648;
-
-const GREATEST: i64 = 2147483647;
-
-// The sum of two numbers of 32 bits, clipped to 32 bits.
-fn saturating_sum(x: i32, y: i32) -> i32
-    ensures { result ≡ moved x y }
-{
-    let sum = (x as i64) + (y as i64);
-    if sum < LEAST {
-        return LEAST as i32;
-    }
-    if GREATEST < sum {
-        return GREATEST as i32;
-    }
-    sum as i32
 }

@@ -34,16 +34,16 @@ module _ (lights : List ℕ) (table : LightTable lights) (v : ℕ) (h : v < leve
 
 pub overflow_sub-rise : goal.overflow_sub-rise
 overflow_sub-rise c =
-    rises c.args.lights.now c.requires.0 c.args.level c.requires.1
+    rises _ c.light_table-lights.ensures c.args.level c.requires
 
 pub overflow_mul-result : goal.overflow_mul-result
 overflow_mul-result c =
-    omega (arith, fits c.args.lights.now c.requires.0 c.args.level c.requires.1)
+    omega (arith, fits _ c.light_table-lights.ensures c.args.level c.requires)
 
 pub overflow_add-result : goal.overflow_add-result
 overflow_add-result c =
-    omega (arith, fits c.args.lights.now c.requires.0 c.args.level c.requires.1)
+    omega (arith, fits _ c.light_table-lights.ensures c.args.level c.requires)
 
 pub returns : goal.returns
 returns c =
-    on_line c.args.lights.now c.requires.0 c.args.level c.requires.1
+    on_line _ c.light_table-lights.ensures c.args.level c.requires

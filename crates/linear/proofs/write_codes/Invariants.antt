@@ -1,5 +1,5 @@
 -- `linear::write_codes` meets its contract. The invariant: the bytes written, and those of the lights left, give all bytes.
-use Prim.Native.Nat.{◌*◌, ◌-◌, ◌≤◌}
+use Prim.Native.Nat.{◌*◌}
 use mathlib.Core.Path.{◌≡◌}
 use lib.ListN.{length}
 use Rattle.esrgb.specs.Depths.{bits}
@@ -9,7 +9,4 @@ use Rattle.linear.proofs.write_codes.Given as goal
 
 abbrev pub invariant-loop-k : goal.invariant-loop-k
 invariant-loop-k l =
-    (l.k ≤ length l.src) × (length l.dst ≡ length l.initial.dst) × Written (light_to_codes (bits l.depth)) l.src l.dst (2 * l.k) l.k
-
-abbrev pub decreases-loop-k : goal.decreases-loop-k
-decreases-loop-k l = length l.src - l.k
+    (length l.dst ≡ length l.initial.dst) × Written (light_to_codes (bits l.search.depth)) l.src l.dst (2 * l.k) l.k

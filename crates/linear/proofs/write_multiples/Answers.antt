@@ -1,4 +1,4 @@
--- `linear::write_multiples` meets its contract. The invariant: the numbers written, and the lights of the samples left, give all lights.
+-- `linear::write_multiples` meets its contract: a turn writes the light of one more sample, and the last leaves none.
 use Prim.Native.Nat.{ℕ, suc, ◌+◌, ◌*◌}
 use mathlib.Core.List.{List, ◌∷◌, map}
 use mathlib.Core.Path.{◌≡◌, refl, sym, ap, ◌∙◌}
@@ -18,21 +18,21 @@ abbrev multiples : ℕ → List ℕ → List ℤ
 multiples factor = map (λ (x : ℕ). light_of_code 16 (factor * x))
 
 pub loop-k-preserved : goal.loop-k-preserved
-loop-k-preserved c =
+loop-k-preserved g c =
     let a = c.args in
     let k = c.loop-k.k in
-    let light : to_z w32 (of_z w32 c.light_of.result) ≡ light_of_code 16 (a.factor * get_or (two_by_two a.src.now) k 0) =
-    to_z-of_z w32 _ (record { sfits = c.light_of.type_inv }) ∙ c.light_of.ensures ∙ ap (λ (x : ℕ). light_of_code 16 (a.factor * x)) c.sample.ensures in (
-      omega arith,
-      simp length-set c.loop-k.invariant.1,
-      written_more (multiples a.factor) (two_by_two a.src.now) 0 k k (k + 1) c.loop-k.dst _ _ (omega (arith, length_two a.src.now))
+    let factor = g.row.FACTOR in
+    let light : to_z w32 (of_z w32 c.light_of.result) ≡ light_of_code 16 (factor * get_or (two_by_two a.src.now) k 0) =
+    to_z-of_z w32 _ (record { sfits = c.light_of.type_inv }) ∙ c.light_of.ensures ∙ ap (λ (x : ℕ). light_of_code 16 (factor * x)) c.sample.ensures in (
+      simp length-set c.loop-k.invariant.0,
+      written_more (multiples factor) (two_by_two a.src.now) 0 k k (k + 1) c.loop-k.dst _ _ (omega (arith, length_two a.src.now))
           (take-one c.loop-k.dst k _ (omega arith))
-          (ap (λ (x : ℤ). x ∷ multiples a.factor (drop (suc k) (two_by_two a.src.now))) (sym light))
-          c.loop-k.invariant.2,
+          (ap (λ (x : ℤ). x ∷ multiples factor (drop (suc k) (two_by_two a.src.now))) (sym light))
+          c.loop-k.invariant.1,
     )
 
 pub returns : goal.returns
-returns c =
+returns g c =
     let a = c.args in
-    written_all (multiples a.factor) (two_by_two a.src.now) c.loop-k.dst c.loop-k.k c.loop-k.k refl
-    (omega (arith, length_two a.src.now)) (omega arith) c.loop-k.invariant.2
+    written_all (multiples g.row.FACTOR) (two_by_two a.src.now) c.loop-k.dst c.loop-k.k c.loop-k.k refl
+    (omega (arith, length_two a.src.now)) (omega arith) c.loop-k.invariant.1

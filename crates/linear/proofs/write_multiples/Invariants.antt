@@ -1,5 +1,5 @@
 -- `linear::write_multiples` meets its contract. The invariant: the numbers written, and the lights of the samples left, give all lights.
-use Prim.Native.Nat.{ℕ, ◌*◌, ◌-◌, ◌≤◌}
+use Prim.Native.Nat.{ℕ, ◌*◌}
 use mathlib.Core.List.{map}
 use mathlib.Core.Path.{◌≡◌}
 use lib.ListN.{length}
@@ -9,8 +9,5 @@ use Rattle.numbers.proofs.Writing.{Written}
 use Rattle.linear.proofs.write_multiples.Given as goal
 
 abbrev pub invariant-loop-k : goal.invariant-loop-k
-invariant-loop-k l =
-    (l.k ≤ length l.initial.dst) × (length l.dst ≡ length l.initial.dst) × Written (map (λ (x : ℕ). light_of_code 16 (l.factor * x))) (two_by_two l.src) l.dst l.k l.k
-
-abbrev pub decreases-loop-k : goal.decreases-loop-k
-decreases-loop-k l = length l.initial.dst - l.k
+invariant-loop-k g l =
+    (length l.dst ≡ length l.initial.dst) × Written (map (λ (x : ℕ). light_of_code 16 (g.row.FACTOR * x))) (two_by_two l.src) l.dst l.k l.k

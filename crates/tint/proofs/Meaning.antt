@@ -11,6 +11,7 @@ use lib.IntN.{pos, neg_ℤ}
 use lib.Ieee.{Float, nan, inf, fin, binary64, up, down, of_int}
 use lib.Ieee.Scale.{finite}
 use borrow.Author.Tests.{leb-true, leb-false}
+use Rattle.std.specs.Prelude.{Option, None, Some}
 use Rattle.numbers.specs.Rounding.{nearest, nearest_down}
 use Rattle.doubles.specs.Doubles.{nearest_whole}
 use Rattle.doubles.proofs.Numbers.{IsNumber, product_number, sum_number}
@@ -21,9 +22,7 @@ use Rattle.transfer.proofs.Level.{is_from, meets, level_from, level_rises}
 use Rattle.samples.specs.declared.Pixel.{Pixel}
 use Rattle.tint.specs.declared.Tint.{Tint}
 use Rattle.tint.specs.declared.Tint.TheVariants.{Code}
-use Rattle.tint.specs.declared.ChannelFault.{ChannelFault}
-use Rattle.tint.specs.declared.ChannelFault.TheVariants.{At, Nowhere}
-use Rattle.tint.specs.Tints.{times, plus, light_limit, TintSaid, gives, refuses_at, tint_pixel, tint_fault, fault_or, tint_says}
+use Rattle.tint.specs.Tints.{times, plus, light_limit, TintSaid, gives, refuses_at, refuses, tint_pixel, tint_fault, fault_or, tint_says}
 
 -- ---- what an accepted channel comes to
 
@@ -84,14 +83,15 @@ module _ (below above : ℕ) (b : light_limit ≤ below) (a : light_limit ≤ ab
 abbrev pixel_in : TintSaid → Pixel → Pixel
 pixel_in (gives p) other = p
 pixel_in (refuses_at k channel) other = other
+pixel_in (refuses k) other = other
 
 pub pixel_given : (t : Tint) (p : Pixel) → gives p ≡ tint_says t → p ≡ tint_pixel t
 unfolding tint_says
 pixel_given t p e = ap (λ (s : TintSaid). pixel_in s (tint_pixel t)) e ∙ by (tint_fault t)
   where
-    by : (f : ChannelFault) → pixel_in (fault_or f (tint_pixel t)) (tint_pixel t) ≡ tint_pixel t
-    by (At k) = refl
-    by Nowhere = refl
+    by : (f : Option ℕ) → pixel_in (fault_or f (tint_pixel t)) (tint_pixel t) ≡ tint_pixel t
+    by (Some k) = refl
+    by None = refl
 
 -- Rule 11.6: 8-bit values are never refused.
 pub code_given : (red green blue : ℕ) → tint_says (Code red green blue) ≡ gives (tint_pixel (Code red green blue))

@@ -1,10 +1,11 @@
 -- Tints: a colour of three channels as a pixel of 12-bit e-sRGB (rules, section 11).
 -- Assumes nothing.
-use Rattle.std.specs.Prelude.{ℕ, ◌^◌, cond, not, ℤ, pos, nat_abs, Float}
+use Rattle.std.specs.Prelude.{ℕ, ◌^◌, cond, not, ℤ, pos, nat_abs, Float, Option, None, Some, Result, Ok, Err}
 use Rattle.std.specs.Float.{binary64}
 use Rattle.std.specs.Float.Ieee.{add, mul, of_int}
 use Rattle.std.specs.Float.Ieee.Scale.{finite}
 use Rattle.doubles.specs.Doubles.{nearest_whole}
+use Rattle.refusal.specs.declared.Fault.{Fault}
 use Rattle.refusal.specs.Refusals.{number_of}
 use Rattle.samples.specs.declared.Pixel.{Pixel}
 use Rattle.samples.specs.Samples.{pixel}
@@ -14,10 +15,6 @@ use Rattle.linear.specs.Operations.{pixel_of_light}
 use Rattle.tint.specs.declared.Channels.{Channels}
 use Rattle.tint.specs.declared.Tint.{Tint}
 use Rattle.tint.specs.declared.Tint.TheVariants.{Code, Nonlinear, Light}
-use Rattle.tint.specs.declared.ChannelFault.{ChannelFault}
-use Rattle.tint.specs.declared.ChannelFault.TheVariants.{At, Nowhere}
-use Rattle.tint.specs.declared.Tinted.{Tinted}
-use Rattle.tint.specs.declared.Tinted.TheVariants.{Accepted, Refused}
 
 -- Rule 11.1: three channels.
 abbrev pub channels : Float → Float → Float → Channels
@@ -50,30 +47,35 @@ tint_pixel (Nonlinear c) = pixel (nonlinear_code c.red) (nonlinear_code c.green)
 tint_pixel (Light c) = pixel_of_light (light_number c.red) (light_number c.green) (light_number c.blue)
 
 -- Rule 11.6: the first channel that is not finite. 8-bit values have none.
-abbrev pub first_fault : Channels → ChannelFault
+abbrev pub first_fault : Channels → Option ℕ
 first_fault c =
-    cond (not (finite c.red)) (At 0)
-    (cond (not (finite c.green)) (At 1)
-    (cond (not (finite c.blue)) (At 2)
-    Nowhere))
+    cond (not (finite c.red)) (Some 0)
+    (cond (not (finite c.green)) (Some 1)
+    (cond (not (finite c.blue)) (Some 2)
+    None))
 
-unfoldable pub tint_fault : Tint → ChannelFault
-tint_fault (Code red green blue) = Nowhere
+unfoldable pub tint_fault : Tint → Option ℕ
+tint_fault (Code red green blue) = None
 tint_fault (Nonlinear c) = first_fault c
 tint_fault (Light c) = first_fault c
 
--- What is said of a tint: its pixel, or a refusal's number and the channel at fault.
+-- What is said of a tint: its pixel, or a refusal's number and the channel at fault. No tint is refused without a channel.
 pub data TintSaid : Type 0 where
   gives : Pixel → TintSaid
   refuses_at : ℕ → ℕ → TintSaid
+  refuses : ℕ → TintSaid
 
-abbrev pub tint_said : Tinted → TintSaid
-tint_said (Accepted p) = gives p
-tint_said (Refused r at) = refuses_at (number_of r) at
+abbrev pub refused_said : ℕ → Option ℕ → TintSaid
+refused_said number None = refuses number
+refused_said number (Some channel) = refuses_at number channel
 
-abbrev pub fault_or : ChannelFault → Pixel → TintSaid
-fault_or (At k) p = refuses_at 17 k
-fault_or Nowhere p = gives p
+abbrev pub tint_said : Result Pixel Fault → TintSaid
+tint_said (Ok p) = gives p
+tint_said (Err f) = refused_said (number_of f.refusal) f.place
+
+abbrev pub fault_or : Option ℕ → Pixel → TintSaid
+fault_or (Some k) p = refuses_at 17 k
+fault_or None p = gives p
 
 unfoldable pub tint_says : Tint → TintSaid
 tint_says t = fault_or (tint_fault t) (tint_pixel t)

@@ -9,7 +9,7 @@ ghost use Rattle.tint.specs.Tints.{nonlinear_code, light_number, first_fault, ti
 use doubles::{is_finite, nearest_whole};
 use esrgb::{Depth, from_srgb};
 use linear::pixel_of_light;
-use refusal::Refusal;
+use refusal::{Fault, Refusal};
 use samples::Pixel;
 
 // The channels of a tint in double precision.
@@ -30,57 +30,38 @@ pub enum Tint {
     Light(Channels),
 }
 
-// What a tint gives.
-#[derive(Clone, Copy)]
-pub enum Tinted {
-    // A pixel of 12-bit codes.
-    Accepted(Pixel),
-    // Why it is refused, and the channel at fault: 0 is red, 1 green, 2 blue.
-    Refused(Refusal, usize),
-}
-
-// A tint as a pixel. All channels are looked at before one is converted.
-pub fn to_pixel(tint: Tint) -> Tinted
+// A tint as a pixel of 12-bit codes, or why it is refused, and the channel at fault as place: 0 is red, 1 green,
+// 2 blue. All channels are looked at before one is converted.
+#[tactic(auto, unfolding(crate::specs::Tints::tint_says))]
+pub fn to_pixel(tint: Tint) -> Result<Pixel, Fault>
     ensures { tint_said result ≡ tint_says tint }
 {
     match fault_of(tint) {
-        ChannelFault::At(channel) => Tinted::Refused(Refusal::NotFinite, channel),
-        ChannelFault::Nowhere => Tinted::Accepted(converted(tint)),
+        Some(channel) => Err(Refusal::NotFinite.at(channel)),
+        None => Ok(converted(tint)),
     }
 }
 
-// The first channel that is infinite or not a number.
-#[derive(Clone, Copy)]
-enum ChannelFault {
-    At(usize),
-    Nowhere,
-}
-
-fn fault_of(tint: Tint) -> ChannelFault
+// The first channel that is infinite or not a number. Values of 8-bit sRGB are neither.
+#[tactic(auto, unfolding(crate::specs::Tints::tint_fault))]
+fn fault_of(tint: Tint) -> Option<usize>
     ensures { result ≡ tint_fault tint }
 {
     match tint {
-        Tint::Code(_, _, _) => ChannelFault::Nowhere,
-        Tint::Nonlinear(channels) => first_fault(channels),
-        Tint::Light(channels) => first_fault(channels),
+        Tint::Code(_, _, _) => None,
+        Tint::Nonlinear(channels) | Tint::Light(channels) => first_fault(channels),
     }
 }
 
-fn first_fault(channels: Channels) -> ChannelFault
+fn first_fault(channels: Channels) -> Option<usize>
     ensures { result ≡ first_fault channels }
 {
-    if !is_finite(channels.red) {
-        return ChannelFault::At(0);
-    }
-    if !is_finite(channels.green) {
-        return ChannelFault::At(1);
-    }
-    if !is_finite(channels.blue) {
-        return ChannelFault::At(2);
-    }
-    ChannelFault::Nowhere
+    [channels.red, channels.green, channels.blue]
+        .iter()
+        .position(|x| !is_finite(*x))
 }
 
+#[tactic(auto, unfolding(crate::specs::Tints::tint_pixel))]
 fn converted(tint: Tint) -> Pixel
     ensures { result ≡ tint_pixel tint }
 {

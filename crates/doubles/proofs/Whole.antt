@@ -4,7 +4,7 @@ use Rattle.std.proofs.Common.{◌≡◌, ℕ, zero, suc, ◌+◌, ◌-◌, ◌*�
 use mathlib.Core.Bool.{false≢true}
 use native.Mathlib.Nat.{lt-div-mul-add, div-eq_of_lt-le, zero-min}
 use lib.Signed.{mag, non_neg}
-use lib.Ieee.{Float, nan, inf, fin, binary64, low, up, down, lt, neg, add, of_int, of_bits, to_unsigned}
+use lib.Ieee.{Float, nan, inf, fin, binary64, low, up, down, lt, neg, add, div, of_int, of_bits, to_unsigned}
 use lib.Ieee.Exact.{HasValue, round_exact}
 use lib.Ieee.Back.{round_whole}
 use lib.Ieee.Scale.{round_same, overflow, finite}
@@ -291,3 +291,18 @@ whole_natural high (inf true) = (tt, omega arith)
 whole_natural high (inf false) = (tt, omega arith)
 whole_natural high (fin true m e) = rw (zero-min (nearest_down (m * up e) (down e))) (tt, omega arith)
 whole_natural high (fin false m e) = (tt, omega arith)
+
+-- ---- a finite double lies between the infinities
+pub below_infinity : (x : Float) → lt x (div binary64 (of_bits binary64 0x3ff0_0000_0000_0000) (of_bits binary64 0)) ≡ true
+    → lt (neg (div binary64 (of_bits binary64 0x3ff0_0000_0000_0000) (of_bits binary64 0))) x ≡ finite x
+unfolding lt neg div of_bits
+below_infinity nan h = refl
+below_infinity (inf true) h = refl
+below_infinity (inf false) h = absurd (false≢true h)
+below_infinity (fin s m e) h = refl
+
+pub not_below_infinity : (x : Float) → lt x (div binary64 (of_bits binary64 0x3ff0_0000_0000_0000) (of_bits binary64 0)) ≡ false → false ≡ finite x
+unfolding lt div of_bits
+not_below_infinity nan h = refl
+not_below_infinity (inf s) h = refl
+not_below_infinity (fin s m e) h = absurd (true≢false h)

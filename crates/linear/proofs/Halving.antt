@@ -10,9 +10,10 @@ use borrow.Author.Tests.{leb-true, leb-false}
 use lib.Dec.{leb}
 use lib.ListN.{get_or}
 use mir.Val.{bool_byte}
-use Rattle.esrgb.specs.Depths.{scale}
+use Rattle.esrgb.specs.Depths.{step, scale}
+use Rattle.esrgb.proofs.Scale.{Scale}
 use Rattle.transfer.specs.Level.{level_of_light}
-use Rattle.transfer.specs.HowTabled.{levels, few_levels, ThresholdTable}
+use Rattle.transfer.specs.HowTabled.{levels, few_levels, start_of, ThresholdTable, StartTable}
 
 -- The level looked for: that of the light, at most the greatest of a code.
 abbrev pub found : ℕ → ℕ → ℕ
@@ -23,6 +24,15 @@ pub record Window (n light level width : ℕ) : Type 0 where
   pub low : level ≤ found n light
   pub high : found n light < level + width
   pub inside : level + width ≤ levels n
+
+-- The start leaves few levels. k is the step of the depth.
+pub from_start :
+    (n k : ℕ) → Scale n → k ≡ step n → (light : ℕ) (starts : List ℕ) → StartTable n starts → (level : ℕ) → level ≡ start_of k starts light
+    → Window n light level few_levels
+from_start n k s e light starts t level p =
+    let low : level ≤ level_of_light (scale n) light = rw (p, e) (t.low light) in
+    let high : min (level_of_light (scale n) light) (levels n - 1) < level + few_levels = rw (p, e) (t.high light) in
+    record { low = omega (arith, low, high, s, p, e); high = high; inside = omega (arith, s, p, e) }
 
 -- What each turn looks across: half of what is left.
 abbrev pub halves : List ℕ

@@ -1,20 +1,24 @@
 -- Sums of light and its move, clipped to 32 bits; and lists of them.
 -- Assumes nothing.
 use Prim.Native.Nat.{ℕ, suc, ◌+◌, ◌/◌, ◌%◌, ◌≤◌, ◌<◌}
-use mathlib.Core.Path.{◌≡◌, refl, ap, ◌∙◌}
-use mathlib.Core.Bool.{true}
+use mathlib.Core.Path.{◌≡◌, refl, sym, ap, ◌∙◌}
+use mathlib.Core.Bool.{true, false, false≢true}
 use mathlib.Core.List.{List, [], ◌∷◌, ◌++◌, append-nil, zip_with}
 use native.Mathlib.Omega.{arith}
-use native.Mathlib.Nat.{min-eq_right, min_comm}
+use native.Mathlib.Nat.{min-eq_left, min-eq_right, min_comm}
 use native.Mathlib.Numerals.{add-one}
 use lib.IntN.{ℤ, pos, negsuc, nat_abs, ◌+ℤ◌}
 use lib.ListN.{length, get_or, take, drop, set, drop_of_length-le}
 use lib.Seq.{take_all, drop-cons, append_snoc, drop-set-lt}
-use lib.Signed.{mag}
-use mir.Syntax.{w32}
+use borrow.Author.Tests.{ltb-true, ltb-false}
+use lib.Signed.{mag, lt_z, nat_abs-le}
+use mir.Syntax.{w32, w64}
+use mir.Val.{SFits, to_z, of_z}
+use mir.ValLaws.{to_z-of_z}
 use Rattle.std.specs.Int.{saturate_signed}
 use Rattle.numbers.specs.Bytes.{little_endian, low_bytes, AllBytes}
 use Rattle.numbers.proofs.Bytes.{two_held}
+use Rattle.numbers.proofs.Sign.{sum-size}
 use Rattle.numbers.proofs.Writing.{take-one}
 use Rattle.samples.specs.Samples.{two_by_two}
 use Rattle.esrgb.specs.Depths.{greatest}
@@ -23,6 +27,7 @@ use Rattle.transfer.specs.Level.{offers_codes, code_of_light}
 use Rattle.transfer.specs.Steady.{most_moved}
 use Rattle.transfer.proofs.Steady.{steady, moved-fits}
 use Rattle.linear.specs.Moved.{clipped, moved, moved_codes}
+use Rattle.linear.proofs.Sign.{read, read_fits}
 
 -- ---- clipped
 pub clip_none : (z : ℤ) → mag z ≤ greatest_light → clipped z ≡ z
@@ -33,6 +38,58 @@ clip_none (negsuc k) h = ap negsuc (min-eq_right h)
 pub saturated : (z : ℤ) → saturate_signed w32 z ≡ clipped z
 saturated (pos k) = ap pos (min_comm k greatest_light)
 saturated (negsuc k) = ap negsuc (min_comm k greatest_light)
+
+below-least : (z : ℤ) → lt_z z (negsuc greatest_light) ≡ true → clipped z ≡ negsuc greatest_light
+below-least (pos k) e = absurd (false≢true e)
+below-least (negsuc k) e =
+    let less : greatest_light < k = ltb-true _ _ e in
+    ap negsuc (min-eq_left (omega arith))
+
+above-greatest : (z : ℤ) → lt_z (pos greatest_light) z ≡ true → clipped z ≡ pos greatest_light
+above-greatest (pos k) e =
+    let more : greatest_light < k = ltb-true _ _ e in
+    ap pos (min-eq_left (omega arith))
+above-greatest (negsuc k) e = absurd (false≢true e)
+
+within : (z : ℤ) → lt_z z (negsuc greatest_light) ≡ false → lt_z (pos greatest_light) z ≡ false → mag z ≤ greatest_light
+within (pos k) low high = ltb-false _ _ high
+within (negsuc k) low high = ltb-false _ _ low
+
+-- ---- as the code computes it, in 64 bits
+wide : (z : ℤ) → SFits w32 z → to_z w64 (of_z w64 (to_z w32 (of_z w32 z))) ≡ z
+wide z f = to_z-of_z w64 _ (read_fits z f) ∙ read z f
+
+module _ (x y : ℤ) (f : SFits w32 x) (g : SFits w32 y) where
+  abbrev sum : ℤ
+  sum = to_z w64 (of_z w64 (to_z w32 (of_z w32 x))) +ℤ to_z w64 (of_z w64 (to_z w32 (of_z w32 y)))
+
+  sum_is : sum ≡ x +ℤ y
+  sum_is = rw (wide x f, wide y g)
+
+  pub sum_fits : SFits w64 sum
+  sum_fits = rw sum_is (record { sfits = omega (arith, sum-size x y, nat_abs-le x f.sfits, nat_abs-le y g.sfits) })
+
+  abbrev held : ℤ
+  held = to_z w64 (of_z w64 sum)
+
+  held_is : held ≡ x +ℤ y
+  held_is = to_z-of_z w64 _ sum_fits ∙ sum_is
+
+  pub sum_low : lt_z held (negsuc greatest_light) ≡ true → negsuc greatest_light ≡ moved x y
+  sum_low e = sym (below-least (x +ℤ y) (rw held_is at e))
+
+  pub sum-high : lt_z (pos greatest_light) held ≡ true → pos greatest_light ≡ moved x y
+  sum-high e = sym (above-greatest (x +ℤ y) (rw held_is at e))
+
+  module _ (low : lt_z held (negsuc greatest_light) ≡ false) (high : lt_z (pos greatest_light) held ≡ false) where
+    inside : mag (x +ℤ y) ≤ greatest_light
+    inside = within (x +ℤ y) (rw held_is at low) (rw held_is at high)
+
+    pub sum_narrow : SFits w32 held
+    sum_narrow = rw held_is (record { sfits = omega (arith, inside) })
+
+    pub sum_kept : to_z w32 (of_z w32 held) ≡ moved x y
+    sum_kept = to_z-of_z w32 _ sum_narrow ∙ held_is ∙ sym (clip_none _ inside)
 
 -- ---- light that a loop moves from the front: what is moved, and what is left, give the whole
 abbrev pub MovedTo : List ℤ → List ℤ → List ℤ → ℕ → Type 0

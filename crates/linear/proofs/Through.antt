@@ -1,14 +1,15 @@
 -- What a call of codes through moved light promises, by how far it comes.
 -- Assumes nothing.
 use Prim.Native.Nat.{ℕ, ◌/◌, ◌≤◌}
-use mathlib.Core.Path.{◌≡◌, sym, ap, ◌∙◌}
+use mathlib.Core.Path.{◌≡◌, refl, sym, ap, ◌∙◌}
 use mathlib.Core.Bool.{false, true}
 use mathlib.Core.List.{List, zip_with}
 use native.Mathlib.Omega.{arith}
 use lib.IntN.{ℤ}
 use lib.ListN.{length, get_or}
 use Rattle.numbers.specs.Bytes.{AllBytes}
-use Rattle.refusal.specs.Answers.{Verdict, sound, Said, accepted, refuses_or, leaves}
+use Rattle.refusal.specs.Answers.{Verdict, sound, Said, accepted, refused, refused_at, refuses_or, leaves}
+use Rattle.refusal.proofs.Verdicts.{or_stands}
 use Rattle.samples.specs.declared.Coding.TheVariants.{Codes}
 use Rattle.samples.specs.Samples.{two_by_two}
 use Rattle.samples.specs.Faults.{samples_say}
@@ -16,13 +17,48 @@ use Rattle.samples.proofs.Judging.{accepted-within, accepted-count}
 use Rattle.samples.proofs.Order.{says_samples, source_samples}
 use Rattle.esrgb.specs.Depths.{offered, greatest}
 use Rattle.linear.specs.Operations.{codes_to_light_says, codes_to_light, light_to_codes_says, light_to_codes}
-use Rattle.linear.specs.Moved.{moved, moved_light, moved_codes, through_fault, Through}
+use Rattle.linear.specs.Moved.{moved, moved_light, moved_codes, through_fault, through_says, Through}
 use Rattle.linear.proofs.Answering.{Lengths, lengths_fit}
 use Rattle.linear.proofs.Moving.{same_codes}
 
+-- A refusal leaves what was there.
+refusal_leaves : {A : Type 0} (s : Said) (new old : A) → ((m : ℕ) → s ≡ accepted m → ⊥) → leaves s new old ≡ old
+refusal_leaves (accepted n) new old never = absurd (never n refl)
+refusal_leaves (refused k) new old never = refl
+refusal_leaves (refused_at k at) new old never = refl
+
 module _ (n : ℕ) (codes : List ℕ) (moves light : List ℤ) (back : List ℕ) where
+  -- Refused, by whatever decides.
+  untouched :
+      (s : Said) → ((m : ℕ) → s ≡ accepted m → ⊥) → s ≡ through_says n codes (length moves) (length light) (length back)
+      → (light' : List ℤ) → light' ≡ light → Through n codes moves light light' back back s
+  untouched s never h light' same =
+      record {
+        says = h;
+        numbers = same ∙ sym (refusal_leaves s (moved_light n codes moves) light never);
+        bytes = sym (refusal_leaves s (moved_codes n codes moves) back never);
+        steady = λ pixels e. absurd (never pixels e);
+      }
+
   abbrev fault : Verdict
   fault = through_fault n (length codes) (length moves) (length light) (length back)
+
+  -- By depth and lengths.
+  pub refused-first :
+      (s : Said) → ((m : ℕ) → s ≡ accepted m → ⊥) → s ≡ refuses_or fault (accepted (length codes / 6)) → Through n codes moves light light back back s
+  refused-first s never h = untouched s never (or_stands fault (length codes / 6) (codes_to_light_says n codes (length light)) s never h) light refl
+
+  module _ (fits : fault ≡ sound) (s : Said) (h : s ≡ codes_to_light_says n codes (length light)) where
+    answer-is : s ≡ through_says n codes (length moves) (length light) (length back)
+    answer-is = h ∙ ap (λ v. refuses_or v (codes_to_light_says n codes (length light))) (sym fits)
+
+    -- By a code.
+    pub refused_by_code :
+        ((m : ℕ) → s ≡ accepted m → ⊥) → (light' : List ℤ) → light' ≡ leaves (codes_to_light_says n codes (length light)) (codes_to_light n codes) light
+        → Through n codes moves light light' back back s
+    refused_by_code never light' e =
+        untouched s never answer-is light'
+        (e ∙ ap (λ a. leaves a (codes_to_light n codes) light) (sym h) ∙ refusal_leaves s (codes_to_light n codes) light never)
 
   -- Accepted: both calls write, and the second says what the first does.
   module _

@@ -5,9 +5,10 @@ use mathlib.Core.Path.{◌≡◌, refl, sym, ap, subst, ◌∙◌}
 use mathlib.Core.List.{List, map}
 use native.Mathlib.Omega.{arith}
 use Rattle.std.specs.Prelude.{Option, None, Some, Result, Ok, Err}
+use Rattle.refusal.specs.declared.Refusal.{Refusal}
 use Rattle.refusal.specs.declared.Fault.{Fault}
 use Rattle.refusal.specs.Refusals.{number_of}
-use Rattle.refusal.specs.Answers.{Said, accepted, refused, refused_at, at_place, fault_said, leaves}
+use Rattle.refusal.specs.Answers.{Said, accepted, refused, refused_at, at_place, fault_said, somewhere, leaves}
 use Rattle.stickers.specs.declared.Choice.{Choice}
 use Rattle.stickers.specs.Choices.{tint_of, allowed, choice_of}
 use Rattle.stickers.specs.Stickers as stickers
@@ -56,6 +57,10 @@ module _ (src tints : List ℕ) (budget room : ℕ) where
     refuses_where (number_of fault.refusal) fault.place says,
     (stays (number_of fault.refusal) fault.place before says, λ choice e. never (Promised tints (picture_of src) budget choice) cc),
   )
+
+  pub refuses-at :
+      (r : Refusal) (at : ℕ) (before : List ℕ) → request_says src tints budget room ≡ refused_at (number_of r) at → Meets (Err (somewhere r at)) before before
+  refuses-at r at before says = refuses (somewhere r at) before says
 
 -- ---- what an answer tells of the request
 chooses_tells : (P : Type 0) (s : Said) (c choice : Choice) → chooses choice ≡ chooses_if s c → ((n : ℕ) → s ≡ accepted n → choice ≡ c → P) → P

@@ -1,12 +1,6 @@
 -- `linear::moved::add_moves` meets its contract: a turn moves one more number, and the last leaves none.
-use mathlib.Core.Path.{◌≡◌}
 use native.Mathlib.Omega.{arith}
-use lib.IntN.{pos}
-use lib.ListN.{get_or}
-use mir.Syntax.{w32}
-use mir.Val.{to_z, of_z}
 use Rattle.std.proofs.Common.{rules}
-use Rattle.linear.specs.Moved.{moved}
 use Rattle.linear.proofs.Moving.{saturated, moved_more, moved_all}
 use Rattle.linear.proofs.moved.add_moves.Goals as goal
 

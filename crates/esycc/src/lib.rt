@@ -24,9 +24,10 @@ struct Sums {
 
 // A sum that stands too high by low, clipped.
 fn clip(most: u16, low: u32, sum: u32) -> u16
+    requires { low ≤ back_lift }
     ensures { result ≡ min most (sum - low) }
 {
-    sum.saturating_sub(low).min(most as u32) as u16
+    (sum.clamp(low, low + most as u32) - low) as u16
 }
 
 impl Sums {

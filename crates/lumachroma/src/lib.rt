@@ -89,67 +89,63 @@ fn above_middle(depth: Depth) -> u16
     }
 }
 
-// What a chroma is worked out from: how far a channel of a pixel is from luma, what that is divided by, and an
-// estimate of the quotient.
+// What a chroma is worked out from: how far a channel of a pixel is from luma, and an estimate of that over DEN.
+// DEN is a constant to the compiler wherever a chroma is worked out.
 #[derive(Clone, Copy)]
-struct Difference {
+struct Difference<const DEN: u32> {
     pixel: Pixel,
     channel: u16,
-    den: u32,
     estimate: u16,
-    ghost in_range: { InRange (1000 * channel) (weighted pixel) den },
-    ghost near: { Estimates (biased_dividend (1000 * channel) (weighted pixel) den) den estimate },
+    ghost in_range: { InRange (1000 * channel) (weighted pixel) DEN },
+    ghost near: { Estimates (biased_dividend (1000 * channel) (weighted pixel) DEN) DEN estimate },
 }
 
-impl Difference {
-    // Of blue chroma (rule 2.3).
-    fn of_blue(p: Pixel) -> Self
-        ensures { (result.pixel ≡ p) × (result.channel ≡ p.third) × (result.den ≡ 1772) }
-    {
-        let others = share(p.first, CB_OF_RED) + share(p.second, CB_OF_GREEN);
-        Difference {
-            pixel: p,
-            channel: p.third,
-            den: 1772,
-            estimate: ESTIMATE_BIAS + p.third / 2 - others,
-        }
+// Of blue chroma (rule 2.3).
+fn blue_difference(p: Pixel) -> Difference<1772>
+    ensures { (result.pixel ≡ p) × (result.channel ≡ p.third) }
+{
+    let others = share(p.first, CB_OF_RED) + share(p.second, CB_OF_GREEN);
+    Difference {
+        pixel: p,
+        channel: p.third,
+        estimate: ESTIMATE_BIAS + p.third / 2 - others,
     }
+}
 
-    // Of red chroma.
-    fn of_red(p: Pixel) -> Self
-        ensures { (result.pixel ≡ p) × (result.channel ≡ p.first) × (result.den ≡ 1402) }
-    {
-        let others = share(p.second, CR_OF_GREEN) + share(p.third, CR_OF_BLUE);
-        Difference {
-            pixel: p,
-            channel: p.first,
-            den: 1402,
-            estimate: ESTIMATE_BIAS + p.first / 2 - others,
-        }
+// Of red chroma.
+fn red_difference(p: Pixel) -> Difference<1402>
+    ensures { (result.pixel ≡ p) × (result.channel ≡ p.first) }
+{
+    let others = share(p.second, CR_OF_GREEN) + share(p.third, CR_OF_BLUE);
+    Difference {
+        pixel: p,
+        channel: p.first,
+        estimate: ESTIMATE_BIAS + p.first / 2 - others,
     }
+}
 
-    // (1000 channel - weighted sum) / den to the nearest, ties towards zero, plus the bias. Where it is above 0,
+impl<const DEN: u32> Difference<DEN> {
+    // (1000 channel - weighted sum) / DEN to the nearest, ties towards zero, plus the bias. Where it is above 0,
     // one less is divided, so that a tie goes down. The sign matters at a tie alone, and there the channel is so
     // far from luma that luma may be rounded to tell it.
     fn biased_quotient(self) -> u32
-        ensures { Biased (1000 * self.channel) (weighted self.pixel) self.den result }
+        ensures { Biased (1000 * self.entry.channel) (weighted self.entry.pixel) DEN result }
     {
         let tie = if luma_of(self.pixel) < self.channel {
             1
         } else {
             0
         };
-        let dividend = self.den * BIAS + self.den / 2 + 1000 * (self.channel as u32)
+        let dividend = DEN * BIAS + DEN / 2 + 1000 * (self.channel as u32)
             - (weighted_sum(self.pixel) as u32)
             - tie;
-        (self.estimate as u32)
-            + ((rest(dividend, self.den, self.estimate) / (self.den as u16)) as u32)
+        (self.estimate as u32) + ((rest(dividend, DEN, self.estimate) / (DEN as u16)) as u32)
     }
 
     // The stored chroma (rule 2.4): the quotient with the middle code of the depth in place of the bias, and 0
     // where that would be less.
     fn stored(self, depth: Depth) -> u16
-        ensures { result ≡ chroma (bits depth) (1000 * self.channel) (weighted self.pixel) self.den }
+        ensures { result ≡ chroma (bits depth) (1000 * self.entry.channel) (weighted self.entry.pixel) DEN }
     {
         (self.biased_quotient() as u16).saturating_sub(above_middle(depth))
     }
@@ -162,8 +158,8 @@ pub fn to_luma_chroma(depth: Depth, p: Pixel) -> Pixel
 {
     Pixel {
         first: luma_of(p),
-        second: Difference::of_blue(p).stored(depth),
-        third: Difference::of_red(p).stored(depth),
+        second: blue_difference(p).stored(depth),
+        third: red_difference(p).stored(depth),
     }
 }
 
@@ -257,7 +253,7 @@ fn clip(middle: u32, sum: u32) -> u16
     requires { Middle middle }
     ensures { result ≡ min (2 * middle - 1) (sum - lift) }
 {
-    sum.saturating_sub(LIFT).min(2 * middle - 1) as u16
+    (sum.clamp(LIFT, LIFT + 2 * middle - 1) - LIFT) as u16
 }
 
 // The way back. What comes back is a code of the depth, whatever the three numbers are. Nearly every

@@ -12,9 +12,9 @@ pub returns : goal.returns
 returns c =
     let n = bits c.args.depth in
     let p = c.args.p in
-    let blue = c.of_blue.ensures in
-    let red = c.of_red.ensures in
+    let blue = c.blue_difference.ensures in
+    let red = c.red_difference.ensures in
     λ i. pixel
     (c.luma_of.ensures i)
-    ((c.stored.ensures ∙ (λ j. chroma n (1000 * blue.1 j) (weighted (blue.0 j)) (blue.2 j)) ∙ is-blue_chroma n p) i)
-    ((c.stored-2.ensures ∙ (λ j. chroma n (1000 * red.1 j) (weighted (red.0 j)) (red.2 j)) ∙ is-red_chroma n p) i)
+    ((c.stored.ensures ∙ (λ j. chroma n (1000 * blue.1 j) (weighted (blue.0 j)) 1772) ∙ is-blue_chroma n p) i)
+    ((c.stored-2.ensures ∙ (λ j. chroma n (1000 * red.1 j) (weighted (red.0 j)) 1402) ∙ is-red_chroma n p) i)

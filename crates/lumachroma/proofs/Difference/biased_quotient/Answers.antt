@@ -21,10 +21,10 @@ module _ (r g b channel : ℕ) where
   not_above h = omega arith
 
 pub returns : goal.returns
-returns c =
+returns g c =
     let d = c.args.self in
     let p = d.pixel in
-    let den : ℕ = d.den in
+    let den : ℕ = g.row.DEN in
     let e : ℕ = d.estimate in
     let whole : ℕ = biased_dividend (1000 * d.channel) (weighted p) den in
     let y : c.luma_of.result ≡ luma p.first p.second p.third = c.luma_of.ensures in

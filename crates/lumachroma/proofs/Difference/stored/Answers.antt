@@ -6,8 +6,8 @@ use Rattle.lumachroma.proofs.Quotient.{is-chroma}
 use Rattle.lumachroma.proofs.Difference.stored.Goals as goal
 
 pub returns : goal.returns
-returns c =
+returns g c =
     let d = c.args.self in
     c.saturating_sub.ensures
     ∙ (λ i. c.biased_quotient.result - c.above_middle.ensures i)
-    ∙ is-chroma c.args.depth (1000 * d.channel) (weighted d.pixel) d.den _ c.biased_quotient.ensures
+    ∙ is-chroma c.args.depth (1000 * d.channel) (weighted d.pixel) g.row.DEN _ c.biased_quotient.ensures

@@ -9,10 +9,10 @@ use lib.ListN.{length, get_or, set, drop}
 use lib.Seq.{drop-length, get_or-set_same, get_or-set_other}
 use borrow.Author.Tests.{eq-eqb, ne_eqb}
 use Rattle.printer.specs.declared.Arrival.{Arrival}
-use Rattle.printer.specs.Arrivals.{no_arrival, print_limit, arrival_limit}
+use Rattle.printer.specs.Arrivals.{print_limit, arrival_limit}
 use Rattle.printer.specs.Turns.{joined, came}
 use Rattle.printer.specs.HowRun.{Due, AllDue, Ready}
-use Rattle.printer.proofs.Judging.{from_here}
+use Rattle.printer.proofs.Judging.{Stands}
 
 -- ---- numbers of which one is set
 pub set_here : (w : List ℕ) (i k v : ℕ) → k < length w → i ≡ k → get_or (set w i v) k 0 ≡ v
@@ -58,31 +58,28 @@ pub coming_first : {list : List Arrival} {t : ℕ} {w : List ℕ} {next : ℕ} �
 coming_first {list} {t} {w} {next} r =
     record { listed = r.listed; within = r.within; due = r.due; past = λ u v h. r.past u v (omega arith); present = r.past t w (le_refl t); few = r.few }
 
-module _ (list : List Arrival) (t : ℕ) (old w : List ℕ) (next : ℕ) (c : Coming list t old w next) (h : next < length list) where
-  abbrev here : Arrival
-  here = get_or list next no_arrival
+module _ (list : List Arrival) (t : ℕ) (old w : List ℕ) (next : ℕ) (c : Coming list t old w next) (a : Arrival) (next_is : Stands list next a) where
+  all_due : AllDue t (a ∷ drop (next + 1) list)
+  all_due = subst (AllDue t) next_is.here c.due
 
-  all_due : AllDue t (here ∷ drop (next + 1) list)
-  all_due = subst (AllDue t) (from_here list next h) c.due
-
-  pub here_due : Due t here
+  pub here_due : Due t a
   here_due = all_due.0
 
-  pub coming_more : here.turn ≡ t → Coming list t old (joined here w) (next + 1)
+  pub coming_more : a.turn ≡ t → Coming list t old (joined a w) (next + 1)
   coming_more e =
       record {
         listed = c.listed;
-        within = omega arith;
+        within = omega (arith, next_is.within);
         due = subst (λ (u : ℕ). AllDue u (drop (next + 1) list)) e all_due.1;
-        past = λ u v l. c.past u v l ∙ ap (λ (d : List Arrival). came u d v) (from_here list next h) ∙ came_not u here (drop (next + 1) list) v (λ z. omega arith);
-        present = c.present ∙ ap (λ (d : List Arrival). came t d w) (from_here list next h) ∙ came_now t here (drop (next + 1) list) w e;
-        few = set_most w here.kiosk (get_or w here.kiosk 0 + here.prints) (print_limit * (next + 1)) (λ k. omega (arith, c.few k)) (omega (arith, c.few here.kiosk, here_due.few));
+        past = λ u v l. c.past u v l ∙ ap (λ (d : List Arrival). came u d v) next_is.here ∙ came_not u a (drop (next + 1) list) v (λ z. omega arith);
+        present = c.present ∙ ap (λ (d : List Arrival). came t d w) next_is.here ∙ came_now t a (drop (next + 1) list) w e;
+        few = set_most w a.kiosk (get_or w a.kiosk 0 + a.prints) (print_limit * (next + 1)) (λ k. omega (arith, c.few k)) (omega (arith, c.few a.kiosk, here_due.few));
       }
 
-  pub stops_here : (here.turn ≡ t → ⊥) → AllDue (t + 1) (drop next list)
+  pub stops_here : (a.turn ≡ t → ⊥) → AllDue (t + 1) (drop next list)
   stops_here n =
       let s = all_due in
-      subst (AllDue (t + 1)) (sym (from_here list next h)) (record { later = omega (arith, s.0.later); there = s.0.there; few = s.0.few }, s.1)
+      subst (AllDue (t + 1)) (sym next_is.here) (record { later = omega (arith, s.0.later); there = s.0.there; few = s.0.few }, s.1)
 
 module _ (list : List Arrival) (t : ℕ) (old w : List ℕ) (next : ℕ) (c : Coming list t old w next) where
   pub none_left : next ≡ length list → AllDue (t + 1) (drop next list)

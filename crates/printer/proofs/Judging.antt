@@ -1,22 +1,23 @@
 -- A list of arrivals, one after another: what is said of it, and what is known of one that is accepted.
 -- Assumes nothing.
-use Prim.Native.Nat.{ℕ, ◌+◌, ◌*◌, ◌/◌, ◌%◌, ◌≤◌, ◌<◌}
-use mathlib.Core.Path.{◌≡◌, refl, ap, ◌∙◌}
+use Prim.Native.Nat.{ℕ, zero, suc, ◌-◌, ◌+◌, ◌*◌, ◌/◌, ◌≤◌, ◌<◌}
+use mathlib.Core.Path.{◌≡◌, refl, sym, ap, ◌∙◌}
 use mathlib.Core.Bool.{Bool, true, false, cond}
 use mathlib.Core.List.{List, [], ◌∷◌}
-use native.Mathlib.Numerals.{add-one}
 use native.Mathlib.Omega.{arith}
-use lib.Dec.{eqb, ltb, leb}
-use lib.ListN.{length, get_or, drop}
-use lib.Seq.{drop-cons}
+use lib.Dec.{ltb, leb}
+use lib.ListN.{length, get_or, take, drop, length-take, length-drop}
+use Rattle.std.proofs.lemmas.List.{get_or-take, get_or-drop}
 use borrow.Author.Tests.{ltb-true, leb-true}
 use Rattle.numbers.proofs.Booleans.{and_true}
+use Rattle.std.specs.Simd.{first_chunks}
+use Rattle.numbers.specs.Threes.{threes}
 use Rattle.numbers.proofs.Threes.{length-threes, three_at}
 use Rattle.refusal.specs.Answers.{sound, faulty, Said, accepted, refused_at, decides}
 use Rattle.refusal.proofs.Verdicts.{not_accepted_at}
 use Rattle.printer.specs.declared.Arrival.{Arrival}
 use Rattle.printer.specs.Arrivals.{arrival_size, arrival, no_arrival, arrivals, turn_limit, kiosk_count, arrival_limit, keeps_limits, arrivals_say, end_says, simulation_says}
-use Rattle.printer.specs.HowRun.{Due, AllDue}
+use Rattle.printer.specs.HowRun.{arrival_of, listed, Due, AllDue}
 
 -- ---- the arrivals in a list of numbers
 pub length-arrivals : (numbers : List ℕ) → length (arrivals numbers) ≡ length numbers / arrival_size
@@ -29,25 +30,67 @@ pub arrival-is :
 unfolding arrivals
 arrival-is numbers i h = three_at arrival numbers i no_arrival (omega arith)
 
-pub from_here : (list : List Arrival) (i : ℕ) → i < length list → drop i list ≡ get_or list i no_arrival ∷ drop (i + 1) list
-from_here list i h = rw (add-one i) (drop-cons list i no_arrival h)
+threes_listed : (numbers : List ℕ) (n : ℕ) → n ≡ length numbers / arrival_size → listed (first_chunks arrival_size n numbers) ≡ threes arrival numbers
+unfolding listed
+threes_listed [] zero e = refl
+threes_listed [] (suc n) e = absurd (omega arith)
+threes_listed (a ∷ []) zero e = refl
+threes_listed (a ∷ []) (suc n) e = absurd (omega arith)
+threes_listed (a ∷ b ∷ []) zero e = refl
+threes_listed (a ∷ b ∷ []) (suc n) e = absurd (omega arith)
+threes_listed (a ∷ b ∷ c ∷ rest) zero e = absurd (omega arith)
+threes_listed (a ∷ b ∷ c ∷ rest) (suc n) e = ap (λ (l : List Arrival). arrival a b c ∷ l) (threes_listed rest n (omega arith))
+
+-- The code goes through a list cut into threes.
+pub all_listed : (numbers : List ℕ) → listed (first_chunks arrival_size (length numbers / arrival_size) numbers) ≡ arrivals numbers
+unfolding arrivals
+all_listed numbers = threes_listed numbers (length numbers / arrival_size) refl
+
+pub length-listed : (rows : List (List ℕ)) → length (listed rows) ≡ length rows
+unfolding listed
+length-listed [] = refl
+length-listed (row ∷ rows) = ap suc (length-listed rows)
+
+-- From arrival i on, which is read from its three numbers.
+pub read_here :
+    (rows : List (List ℕ)) (i : ℕ) (a : Arrival) → i < length rows → a ≡ arrival_of (get_or rows i [])
+    → drop i (listed rows) ≡ a ∷ drop (i + 1) (listed rows)
+unfolding listed
+read_here [] i a h read = absurd (omega arith)
+read_here (row ∷ rows) zero a h read = ap (λ (x : Arrival). x ∷ listed rows) (sym read)
+read_here (row ∷ rows) (suc i) a h read = let e : suc i + 1 ≡ suc (i + 1) = omega arith in rw e (read_here rows i a (omega arith) read)
+
+-- Arrival a stands at a place of the list.
+pub record Stands (list : List Arrival) (place : ℕ) (a : Arrival) : Type 0 where
+  pub within : place < length list
+  pub here : drop place list ≡ a ∷ drop (place + 1) list
+
+-- It is read as the k-th of those from number `start` on.
+pub read_from :
+    (rows : List (List ℕ)) (start k place : ℕ) (a : Arrival) → place ≡ start + k → k < length (take (length rows - start) (drop start rows))
+    → a ≡ arrival_of (get_or (take (length rows - start) (drop start rows)) k []) → Stands (listed rows) place a
+read_from rows start k place a e h read =
+    let within : k < length rows - start = omega (arith, simp (length-take, length-drop) at h) in
+    let same = get_or-take (length rows - start) (drop start rows) k [] within ∙ get_or-drop start rows k [] in
+    rw e (record { within = omega (arith, length-listed rows); here = read_here rows (start + k) a (omega arith) (read ∙ ap arrival_of same) })
 
 -- ---- what is said of them
-module _ (done : Said) (list : List Arrival) (i before : ℕ) (h : i < length list) where
-  pub say_on :
-      keeps_limits i before (get_or list i no_arrival) ≡ true
-      → arrivals_say done i before (drop i list) ≡ arrivals_say done (i + 1) (get_or list i no_arrival).turn (drop (i + 1) list)
+module _ (done : Said) (list rest : List Arrival) (i before : ℕ) (a : Arrival) (here : list ≡ a ∷ rest) where
+  pub say_on : keeps_limits i before a ≡ true → arrivals_say done i before list ≡ arrivals_say done (i + 1) a.turn rest
   unfolding arrivals_say
-  say_on keeps = ap (arrivals_say done i before) (from_here list i h) ∙ simp keeps
+  say_on keeps = ap (arrivals_say done i before) here ∙ simp keeps
 
-  pub say_here : keeps_limits i before (get_or list i no_arrival) ≡ false → arrivals_say done i before (drop i list) ≡ refused_at 22 i
+  pub say_here : keeps_limits i before a ≡ false → arrivals_say done i before list ≡ refused_at 22 i
   unfolding arrivals_say
-  say_here breaks = ap (arrivals_say done i before) (from_here list i h) ∙ simp breaks
+  say_here breaks = ap (arrivals_say done i before) here ∙ simp breaks
 
 pub say_done : (done : Said) (i before : ℕ) (list : List Arrival) → length list ≡ 0 → arrivals_say done i before list ≡ done
 unfolding arrivals_say
 say_done done i before [] h = refl
 say_done done i before (a ∷ list) h = absurd (omega arith)
+
+pub say_behind : (done : Said) (i before : ℕ) (list : List Arrival) → length list ≤ i → arrivals_say done i before (drop i list) ≡ done
+say_behind done i before list h = say_done done i before (drop i list) (simp length-drop (omega arith))
 
 -- ---- what is known of a list that is accepted
 keeps_due : (i before : ℕ) (a : Arrival) → keeps_limits i before a ≡ true → (i < arrival_limit) × Due before a
@@ -84,15 +127,6 @@ list_accepted done i before (a ∷ list) n l h =
     accepted-more done (arrivals_say done (i + 1) a.turn list) i before a list n (keeps_limits i before a) refl h
     (λ few e. list_accepted done (i + 1) a.turn list n (omega arith) e)
 
--- The turns that are accepted are those that were asked for.
-rest-accepted : (b : Bool) (at turns n : ℕ) → decides (cond b sound (faulty 22)) at (accepted turns) ≡ accepted n → turns ≡ n
-rest-accepted true at turns n h = cc
-rest-accepted false at turns n h = absurd (not_accepted_at 22 at n h)
-
-module _ (numbers : List ℕ) (turns n : ℕ) (h : simulation_says numbers turns ≡ accepted n) where
-  pub simulation-accepted : Accepted (end_says numbers turns) 0 0 (arrivals numbers) n
-  unfolding simulation_says
-  simulation-accepted = list_accepted (end_says numbers turns) 0 0 (arrivals numbers) n (omega arith) h
-
-  pub turns_accepted : turns ≡ n
-  turns_accepted = rest-accepted (eqb (length numbers % arrival_size) 0) (length numbers / arrival_size) turns n simulation-accepted.end
+pub simulation-accepted : (numbers : List ℕ) (turns n : ℕ) → simulation_says numbers turns ≡ accepted n → Accepted (end_says numbers turns) 0 0 (arrivals numbers) n
+unfolding simulation_says
+simulation-accepted numbers turns n h = list_accepted (end_says numbers turns) 0 0 (arrivals numbers) n (omega arith) h

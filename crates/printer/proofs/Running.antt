@@ -10,7 +10,7 @@ use lib.Seq.{drop-cons, drop-length, set_at}
 use Rattle.refusal.specs.Answers.{accepted}
 use Rattle.printer.specs.declared.Arrival.{Arrival}
 use Rattle.printer.specs.Arrivals.{arrivals, kiosk_count, simulation_says}
-use Rattle.printer.specs.Turns.{came, next_kiosk, Printer, printer, after_print, after_turn, new_printer, printer_at, turn_byte, turn_bytes}
+use Rattle.printer.specs.Turns.{came, idle, next_kiosk, Printer, printer, after_print, after_turn, new_printer, printer_at, turn_byte, turn_bytes}
 use Rattle.printer.specs.HowRun.{Ready}
 use Rattle.printer.proofs.Judging.{simulation-accepted}
 use Rattle.printer.proofs.Arriving.{set_most}
@@ -40,51 +40,56 @@ module _ (list : List Arrival) (t : ℕ) (before w left : List ℕ) (first b aft
         ),
       )
 
+-- Where none is served, the printer stays as it is once the arrivals have come.
+pub unused_turn :
+    (list : List Arrival) (t : ℕ) (before w : List ℕ) (first : ℕ) → w ≡ came t list before → idle ≡ next_kiosk w first
+    → printer w first ≡ after_turn list t (printer before first)
+unfolding after_print after_turn
+unused_turn list t before w first e f = ap (after_print w first) f ∙ ap (λ (x : List ℕ). after_print x first (next_kiosk x first)) e
+
 -- ---- all turns
 -- t turns are taken: their bytes are written, and the others stand as they were.
-pub record Running (numbers old out waiting : List ℕ) (first next t : ℕ) : Type 0 where
-  pub printer : printer waiting first ≡ printer_at (arrivals numbers) t
-  pub ready : Ready (arrivals numbers) t waiting next
-  pub round : first < kiosk_count
+pub record Running (list : List Arrival) (old out waiting : List ℕ) (first next t : ℕ) : Type 0 where
+  pub printer : printer waiting first ≡ printer_at list t
+  pub ready : Ready list t waiting next
   pub turn : t ≤ length old
   pub whole : length out ≡ length old
-  pub written : out ≡ turn_bytes (arrivals numbers) t ++ drop t old
+  pub written : out ≡ turn_bytes list t ++ drop t old
 
-pub running_first : (numbers out : List ℕ) (n : ℕ) → simulation_says numbers n ≡ accepted n → Running numbers out out (replicate kiosk_count 0) 0 0 0
+pub running_first :
+    (numbers out : List ℕ) (list : List Arrival) (n : ℕ) → list ≡ arrivals numbers → simulation_says numbers n ≡ accepted n
+    → Running list out out (replicate kiosk_count 0) 0 0 0
 unfolding printer_at turn_bytes new_printer
-running_first numbers out n h =
+running_first numbers out list n is h =
     let a = simulation-accepted numbers n n h in
     record {
       printer = refl;
-      ready = record { listed = omega (arith, a.few); within = omega arith; due = a.due; past = λ u w l. refl; few = λ k. omega (arith, no_prints kiosk_count k) };
-      round = omega arith;
+      ready = record { listed = rw is (omega (arith, a.few)); within = omega arith; due = rw is a.due; past = λ u w l. refl; few = λ k. omega (arith, no_prints kiosk_count k) };
       turn = omega arith;
       whole = refl;
       written = refl;
     }
 
-pub running_more :
-    (numbers old out waiting left : List ℕ) (first after b next then t : ℕ) → Running numbers old out waiting first next t → t < length old
-    → b ≡ next_kiosk (came t (arrivals numbers) waiting) first → printer left after ≡ after_turn (arrivals numbers) t (printer waiting first)
-    → Ready (arrivals numbers) (t + 1) left then → after < kiosk_count
-    → Running numbers old (set out t b) left after then (t + 1)
-unfolding printer_at turn_bytes turn_byte
-running_more numbers old out waiting left first after b next then t r h e f ready round =
-    let list = arrivals numbers in
-    let byte : b ≡ turn_byte list t = e ∙ ap (λ (p : Printer). next_kiosk (came t list p.waiting) p.first) r.printer in
-    record {
-      printer = rw (add-one t) (f ∙ ap (after_turn list t) r.printer);
-      ready = ready;
-      round = round;
-      turn = omega arith;
-      whole = length-set out t b ∙ r.whole;
-      written =
-          ap (λ (l : List ℕ). set l t b) (r.written ∙ ap (λ (l : List ℕ). turn_bytes list t ++ l) (drop-cons old t 0 h))
-          ∙ set_at (turn_bytes list t) (get_or old t 0) (drop (suc t) old) b t (length-bytes list t)
-          ∙ ap (λ (x : ℕ). turn_bytes list t ++ (x ∷ drop (suc t) old)) byte
-          ∙ sym (append_assoc (turn_bytes list t) (turn_byte list t ∷ []) (drop (suc t) old))
-          ∙ ap (λ (n : ℕ). turn_bytes list n ++ drop n old) (sym (add-one t));
-    }
+module _ (list : List Arrival) (old out waiting : List ℕ) (first next t : ℕ) (r : Running list old out waiting first next t) where
+  pub running_more :
+      (left : List ℕ) (b after then : ℕ) → t < length old → b ≡ next_kiosk (came t list waiting) first
+      → printer left after ≡ after_turn list t (printer waiting first) → Ready list (t + 1) left then
+      → Running list old (set out t b) left after then (t + 1)
+  unfolding printer_at turn_bytes turn_byte
+  running_more left b after then h e f ready =
+      let byte : b ≡ turn_byte list t = e ∙ ap (λ (p : Printer). next_kiosk (came t list p.waiting) p.first) r.printer in
+      record {
+        printer = rw (add-one t) (f ∙ ap (after_turn list t) r.printer);
+        ready = ready;
+        turn = omega arith;
+        whole = length-set out t b ∙ r.whole;
+        written =
+            ap (λ (l : List ℕ). set l t b) (r.written ∙ ap (λ (l : List ℕ). turn_bytes list t ++ l) (drop-cons old t 0 h))
+            ∙ set_at (turn_bytes list t) (get_or old t 0) (drop (suc t) old) b t (length-bytes list t)
+            ∙ ap (λ (x : ℕ). turn_bytes list t ++ (x ∷ drop (suc t) old)) byte
+            ∙ sym (append_assoc (turn_bytes list t) (turn_byte list t ∷ []) (drop (suc t) old))
+            ∙ ap (λ (n : ℕ). turn_bytes list n ++ drop n old) (sym (add-one t));
+      }
 
-pub running_last : (numbers old out waiting : List ℕ) (first next t : ℕ) → Running numbers old out waiting first next t → t ≡ length old → out ≡ turn_bytes (arrivals numbers) (length old)
-running_last numbers old out waiting first next t r e = r.written ∙ rw (e, drop-length, append-nil)
+  pub running_last : t ≡ length old → out ≡ turn_bytes list (length old)
+  running_last e = r.written ∙ rw (e, drop-length, append-nil)

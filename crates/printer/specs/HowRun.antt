@@ -1,10 +1,17 @@
 -- How the code goes about the arrivals: one after another, each once. The proofs show that this comes to what each turn takes from the
 -- whole list.
 -- Assumes nothing.
-use Rattle.std.specs.Prelude.{ℕ, ◌*◌, ◌≤◌, ◌<◌, ◌≡◌, List, [], ◌∷◌, length, get_or, drop}
+use Rattle.std.specs.Prelude.{ℕ, ◌*◌, ◌≤◌, ◌<◌, ◌≡◌, List, [], ◌∷◌, length, get_or, drop, map}
 use Rattle.printer.specs.declared.Arrival.{Arrival}
-use Rattle.printer.specs.Arrivals.{kiosk_count, print_limit, arrival_limit}
-use Rattle.printer.specs.Turns.{idle, came}
+use Rattle.printer.specs.Arrivals.{kiosk_count, print_limit, arrival_limit, arrival}
+use Rattle.printer.specs.Turns.{came}
+
+-- The arrival of three numbers, and those of a list of threes.
+abbrev pub arrival_of : List ℕ → Arrival
+arrival_of row = arrival (get_or row 0 0) (get_or row 1 0) (get_or row 2 0)
+
+unfoldable pub listed : List (List ℕ) → List Arrival
+listed rows = map arrival_of rows
 
 -- What a loop needs of an arrival that is to come in turn t or later.
 pub record Due (t : ℕ) (a : Arrival) : Type 0 where
@@ -25,7 +32,7 @@ pub record Ready (list : List Arrival) (t : ℕ) (waiting : List ℕ) (next : �
   pub past : (u : ℕ) (w : List ℕ) → t ≤ u → came u list w ≡ came u (drop next list) w
   pub few : (k : ℕ) → get_or waiting k 0 ≤ print_limit * next
 
--- Kiosk k has a print waiting, or is none.
+-- Kiosk k has a print waiting.
 pub record Servable (waiting : List ℕ) (k : ℕ) : Type 0 where
-  pub there : (k ≡ idle → ⊥) → k < kiosk_count
-  pub waits : (k ≡ idle → ⊥) → 0 < get_or waiting k 0
+  pub there : k < kiosk_count
+  pub waits : 0 < get_or waiting k 0

@@ -16,7 +16,6 @@ ghost use Rattle.stickers.specs.HowTaken.{tie_rank, rank, TieRanks};
 
 use esrgb::Depth;
 use lumachroma::to_luma_chroma;
-use numbers::lower;
 use refusal::{Answer, Fault, Refusal};
 use samples::{Pixel, judge, pixel_at, whole_pixels};
 use std::array;
@@ -58,11 +57,9 @@ pub fn choose(
     ensures promise { (choice : Choice) → result ≡ Ok choice → Promised tints.now (picture_of src.now) budget choice }
 {
     let limit = judge_request(src, tints, budget, dst.len())?;
-    let picture = Picture { src };
-    let tints = Tints { codes: tints };
-    let choice = search(picture, tints, limit);
-    let palette = Palette::of(tints, choice.four);
-    palette.write_tints(picture, dst);
+    let request = Request { src, tints };
+    let choice = search(request, limit);
+    Palette::of(request, choice.four).write_tints(dst);
     Ok(choice)
 }
 
@@ -126,15 +123,20 @@ struct Colour {
     ghost codes: { CodePixel pixel },
 }
 
-// An accepted picture: no code is too great, and there are no more pixels than the sticker printer takes.
+// An accepted request: no code of the picture or of the tints is too great, and there are no more pixels than the
+// sticker printer takes.
 #[derive(Clone, Copy)]
-struct Picture<'a> {
+struct Request<'a> {
     src: &'a [u8],
+    tints: &'a [u16; TINT_CODES],
     ghost codes: { AllCodes (two_by_two src.now) },
     ghost few: { length (picture_of src.now) ≤ most_pixels },
+    ghost small: { TintCodes tints.now },
 }
 
-impl Picture<'_> {
+// A tint goes by its index, so each method with one asks that it is below the number of tints; a type for such an
+// index would be made anew at each use.
+impl Request<'_> {
     fn pixel_count(self) -> usize
         ensures { result ≡ length (picture_of self.entry.src.now) }
     {
@@ -149,32 +151,23 @@ impl Picture<'_> {
             pixel: pixel_at(self.src, true, i),
         }
     }
-}
 
-// The accepted tints: no code is too great.
-#[derive(Clone, Copy)]
-struct Tints<'a> {
-    codes: &'a [u16; TINT_CODES],
-    ghost small: { TintCodes codes.now },
-}
-
-impl Tints<'_> {
     // Tint t as a pixel.
     fn tint_at(self, t: usize) -> Pixel
         requires { t < tint_count }
-        ensures { result ≡ tint self.entry.codes.now t }
+        ensures { result ≡ tint self.entry.tints.now t }
     {
         Pixel {
-            first: self.codes[3 * t],
-            second: self.codes[3 * t + 1],
-            third: self.codes[3 * t + 2],
+            first: self.tints[3 * t],
+            second: self.tints[3 * t + 1],
+            third: self.tints[3 * t + 2],
         }
     }
 
     // The distance of a pixel to tint t.
     fn distance_to(self, colour: Colour, t: usize) -> u16
         requires { t < tint_count }
-        ensures { result ≡ away self.entry.codes.now colour.pixel t }
+        ensures { result ≡ away self.entry.tints.now colour.pixel t }
     {
         let pixel = colour.pixel;
         let tint = self.tint_at(t);
@@ -186,7 +179,7 @@ impl Tints<'_> {
     // The luma of tint t, rounded as in a picture.
     fn tint_luma(self, t: usize) -> u16
         requires { t < tint_count }
-        ensures { result ≡ tint_luma self.entry.codes.now t }
+        ensures { result ≡ tint_luma self.entry.tints.now t }
     {
         let converted = to_luma_chroma(Depth::Twelve, self.tint_at(t));
         converted.first
@@ -195,7 +188,7 @@ impl Tints<'_> {
     // What decides between tints that are as near, of tint t.
     fn tie_rank(self, t: usize) -> u16
         requires { t < tint_count }
-        ensures { result ≡ tie_rank self.entry.codes.now t }
+        ensures { result ≡ tie_rank self.entry.tints.now t }
     {
         RANKS * self.tint_luma(t) + t as u16
     }
@@ -220,14 +213,14 @@ fn row_of(t: u8) -> usize
 }
 
 // Puts a pixel's distances in column k of the rows. The result is the least of them.
-fn fill_column(tints: Tints, colour: Colour, k: usize, rows: &mut [u16; ENTRIES]) -> u16
+fn fill_column(request: Request, colour: Colour, k: usize, rows: &mut [u16; ENTRIES]) -> u16
     requires { k < block_size }
-    ensures least { result ≡ least_of_all tints.entry.codes.now colour.pixel }
-    ensures column { Column tints.entry.codes.now colour.pixel k rows.old rows.new }
+    ensures least { result ≡ least_of_all request.entry.tints.now colour.pixel }
+    ensures column { Column request.entry.tints.now colour.pixel k rows.old rows.new }
 {
-    let mut least = tints.distance_to(colour, 0);
+    let mut least = request.distance_to(colour, 0);
     for t in 0..TINTS {
-        let distance = tints.distance_to(colour, t);
+        let distance = request.distance_to(colour, t);
         rows[BLOCK * t + k] = distance;
         least = least.min(distance);
     }
@@ -235,23 +228,17 @@ fn fill_column(tints: Tints, colour: Colour, k: usize, rows: &mut [u16; ENTRIES]
 }
 
 // Fills the rows for `count` pixels from number `start` on. The result is the sum of their least distances.
-fn fill_block(
-    picture: Picture,
-    tints: Tints,
-    start: usize,
-    count: usize,
-    rows: &mut [u16; ENTRIES],
-) -> u32
-    requires { (count ≤ block_size) × (start + count ≤ length (picture_of picture.src.now)) }
-    ensures least { summed (least_of_all tints.entry.codes.now) (drop start (picture_of picture.entry.src.now)) ≡ result + summed (least_of_all tints.entry.codes.now) (drop (start + count) (picture_of picture.entry.src.now)) }
+fn fill_block(request: Request, start: usize, count: usize, rows: &mut [u16; ENTRIES]) -> u32
+    requires { (count ≤ block_size) × (start + count ≤ length (picture_of request.src.now)) }
+    ensures least { summed (least_of_all request.entry.tints.now) (drop start (picture_of request.entry.src.now)) ≡ result + summed (least_of_all request.entry.tints.now) (drop (start + count) (picture_of request.entry.src.now)) }
     ensures few { result ≤ most_entry * count }
-    ensures block { BlockOf tints.entry.codes.now (picture_of picture.entry.src.now) start count rows.new }
+    ensures block { BlockOf request.entry.tints.now (picture_of request.entry.src.now) start count rows.new }
     ensures whole { length rows.new ≡ entry_count }
 {
     let mut sum: u32 = 0;
     for k in 0..count {
-        let colour = picture.colour_at(start + k);
-        sum += u32::from(fill_column(tints, colour, k, rows));
+        let colour = request.colour_at(start + k);
+        sum += u32::from(fill_column(request, colour, k, rows));
     }
     sum
 }
@@ -343,7 +330,7 @@ struct Summed {
     sum: u32,
 }
 
-// The sums of the first choices, as many as the limit, and 0 behind them.
+// The sums of the first choices, as many as the limit. Memory is fixed, so there is room for all.
 #[derive(Drop)]
 struct Sums {
     all: [u32; CHOICES],
@@ -372,6 +359,7 @@ impl Sums {
         ensures limit { self.new.limit ≡ self.old.limit }
     {
         let mut four = four_of(0, 1, 2, 3);
+        // By index, since a part of a field beside ghost fields is not lent.
         for k in 0..self.limit {
             self.all[k] += block.four_sum(four);
             four = following(four);
@@ -379,18 +367,18 @@ impl Sums {
     }
 
     // Adds the sums over a picture. The result is the sum with all tints.
-    fn add_picture(&mut self, picture: Picture, tints: Tints) -> u32
+    fn add_picture(&mut self, request: Request) -> u32
         requires { (k : ℕ) → get_or self.old.all k 0 ≡ 0 }
-        ensures least { result ≡ sum_of_all tints.entry.codes.now (picture_of picture.entry.src.now) }
-        ensures sums { SumsOf (sum_of tints.entry.codes.now (picture_of picture.entry.src.now)) self.old.limit self.new.all }
+        ensures least { result ≡ sum_of_all request.entry.tints.now (picture_of request.entry.src.now) }
+        ensures sums { SumsOf (sum_of request.entry.tints.now (picture_of request.entry.src.now)) self.old.limit self.new.all }
         ensures limit { self.new.limit ≡ self.old.limit }
     {
-        let pixels = picture.pixel_count();
+        let pixels = request.pixel_count();
         let mut rows = [0u16; ENTRIES];
         let mut least: u32 = 0;
         for start in (0..pixels).step_by(BLOCK) {
             let count = BLOCK.min(pixels - start);
-            least += fill_block(picture, tints, start, count, &mut rows);
+            least += fill_block(request, start, count, &mut rows);
             self.add_block(Block { rows: &rows, count });
         }
         least
@@ -415,12 +403,12 @@ impl Sums {
 }
 
 // The choice for a picture, of the first choices up to the limit.
-fn search(picture: Picture, tints: Tints, limit: usize) -> Choice
+fn search(request: Request, limit: usize) -> Choice
     requires { (0 < limit) × (limit ≤ length choices) }
-    ensures { result ≡ choice_of tints.entry.codes.now (picture_of picture.entry.src.now) limit }
+    ensures { result ≡ choice_of request.entry.tints.now (picture_of request.entry.src.now) limit }
 {
     let mut sums = Sums::new(limit);
-    let least = sums.add_picture(picture, tints);
+    let least = sums.add_picture(request);
     let best = sums.earliest();
     Choice {
         four: best.four,
@@ -444,50 +432,54 @@ const RANK_SPAN: u32 = 65536;
 // The four tints that pixels take, and what decides ties between tints, worked out once for a picture.
 #[derive(Drop)]
 struct Palette<'a> {
-    tints: Tints<'a>,
+    request: Request<'a>,
     four: Four,
     ties: [u16; TINTS],
     ghost ascending: { Ascending four },
-    ghost ranked: { TieRanks tints.codes.now ties },
+    ghost ranked: { TieRanks request.tints.now ties },
 }
 
 impl Palette<'_> {
-    fn of(tints: Tints, four: Four) -> Palette
+    fn of(request: Request, four: Four) -> Palette
         requires { Ascending four }
-        ensures tints { result.tints ≡ tints.entry }
+        ensures request { result.request ≡ request.entry }
         ensures four { result.four ≡ four }
     {
-        let ties = array::from_fn(|t| tints.tie_rank(t));
-        Palette { tints, four, ties }
+        let ties = array::from_fn(|t| request.tie_rank(t));
+        Palette {
+            request,
+            four,
+            ties,
+        }
     }
 
     // The rank of tint t for a pixel.
     fn rank_of(&self, colour: Colour, t: u8) -> u32
         requires { t < tint_count }
-        ensures { result ≡ rank self.now.tints.codes.now colour.pixel t }
+        ensures { result ≡ rank self.now.request.tints.now colour.pixel t }
     {
         let t = usize::from(t);
-        RANK_SPAN * u32::from(self.tints.distance_to(colour, t)) + u32::from(self.ties[t])
+        RANK_SPAN * u32::from(self.request.distance_to(colour, t)) + u32::from(self.ties[t])
     }
 
     // The tint that a pixel takes of the four.
     fn tint_of(&self, colour: Colour) -> u8
-        ensures { result ≡ tint_of self.now.tints.codes.now self.now.four colour.pixel }
+        ensures { result ≡ tint_of self.now.request.tints.now self.now.four colour.pixel }
     {
         let first = self.rank_of(colour, self.four.first);
-        let two = lower(first, self.rank_of(colour, self.four.second));
-        let three = lower(two, self.rank_of(colour, self.four.third));
-        let four = lower(three, self.rank_of(colour, self.four.fourth));
+        let two = first.min(self.rank_of(colour, self.four.second));
+        let three = two.min(self.rank_of(colour, self.four.third));
+        let four = three.min(self.rank_of(colour, self.four.fourth));
         (four % u32::from(RANKS)) as u8
     }
 
     // Writes the tint of each pixel.
-    fn write_tints(&self, picture: Picture, dst: &mut [u8])
-        requires { length dst.old ≡ length (picture_of picture.src.now) }
-        ensures { dst.new ≡ map (tint_of self.now.tints.codes.now self.now.four) (picture_of picture.entry.src.now) }
+    fn write_tints(&self, dst: &mut [u8])
+        requires { length dst.old ≡ length (picture_of self.now.request.src.now) }
+        ensures { dst.new ≡ map (tint_of self.now.request.tints.now self.now.four) (picture_of self.now.request.src.now) }
     {
         for (i, byte) in dst.iter_mut().enumerate() {
-            *byte = self.tint_of(picture.colour_at(i));
+            *byte = self.tint_of(self.request.colour_at(i));
         }
     }
 }

@@ -8,8 +8,8 @@ use Rattle.stickers.proofs.fill_block.Goals as goal
 pub loop-k-preserved : goal.loop-k-preserved
 loop-k-preserved c =
     let a = c.args in
-    let tints = a.tints.codes.now in
-    let picture = picture_of a.picture.src.now in
+    let tints = a.request.tints.now in
+    let picture = picture_of a.request.src.now in
     let pixel = c.colour_at-colour.ensures in
     let column = c.fill_column.ensures.column in (
       omega arith,

@@ -8,4 +8,4 @@ use Rattle.stickers.proofs.fill_block.Given as goal
 
 abbrev pub invariant-loop-k : goal.invariant-loop-k
 invariant-loop-k l =
-    (l.sum ≤ most_entry * l.k) × (length l.rows ≡ entry_count) × SumTo (least_of_all l.tints.codes.now) (picture_of l.picture.src.now) l.start l.k l.sum × BlockOf l.tints.codes.now (picture_of l.picture.src.now) l.start l.k l.rows
+    (l.sum ≤ most_entry * l.k) × (length l.rows ≡ entry_count) × SumTo (least_of_all l.request.tints.now) (picture_of l.request.src.now) l.start l.k l.sum × BlockOf l.request.tints.now (picture_of l.request.src.now) l.start l.k l.rows

@@ -9,7 +9,7 @@ use Rattle.stickers.proofs.fill_column.Goals as goal
 pub loop-t-init : goal.loop-t-init
 loop-t-init c =
     let a = c.args in
-    let tints = a.tints.codes.now in (
+    let tints = a.request.tints.now in (
       ap (λ m. least_of tints a.colour.pixel m (from 0)) c.distance_to-least.ensures ∙ least_starts tints a.colour.pixel,
       filling_first tints a.colour.pixel a.k a.rows.now,
     )
@@ -17,7 +17,7 @@ loop-t-init c =
 pub loop-t-preserved : goal.loop-t-preserved
 loop-t-preserved c =
     let a = c.args in
-    let tints = a.tints.codes.now in
+    let tints = a.request.tints.now in
     let pixel = a.colour.pixel in
     let t = c.loop-t.t in
     let distance = c.distance_to-distance.ensures in
@@ -30,4 +30,4 @@ loop-t-preserved c =
 
 pub returns-clause-least : goal.returns-clause-least
 returns-clause-least c =
-    sym (least_ends c.args.tints.codes.now c.args.colour.pixel c.loop-t.least c.loop-t.t (omega arith)) ∙ c.loop-t.invariant.0
+    sym (least_ends c.args.request.tints.now c.args.colour.pixel c.loop-t.least c.loop-t.t (omega arith)) ∙ c.loop-t.invariant.0

@@ -7,4 +7,4 @@ use Rattle.stickers.proofs.fill_column.Given as goal
 
 abbrev pub invariant-loop-t : goal.invariant-loop-t
 invariant-loop-t l =
-    (least_of l.tints.codes.now l.colour.pixel l.least (from l.t) ≡ least_of_all l.tints.codes.now l.colour.pixel) × Filling l.tints.codes.now l.colour.pixel l.k l.initial.rows l.rows l.t
+    (least_of l.request.tints.now l.colour.pixel l.least (from l.t) ≡ least_of_all l.request.tints.now l.colour.pixel) × Filling l.request.tints.now l.colour.pixel l.k l.initial.rows l.rows l.t

@@ -8,8 +8,8 @@ use Rattle.stickers.proofs.search.Goals as goal
 pub returns : goal.returns
 returns c =
     let added = c.add_picture-least.ensures in
-    let tints = c.args.tints.codes.now in
-    let picture = picture_of c.args.picture.src.now in
+    let tints = c.args.request.tints.now in
+    let picture = picture_of c.args.request.src.now in
     let limit : c.add_picture-least.new.self.limit ≡ c.args.limit = added.limit ∙ c.new-sums.ensures.limit in
     let sums = rw c.new-sums.ensures.limit at added.sums in
     let best = rw limit at c.earliest-best.ensures in

@@ -6,4 +6,4 @@ use Rattle.stickers.specs.Stickers.{picture_of}
 use Rattle.stickers.proofs.Palette.write_tints.Given as goal
 
 abbrev pub invariant-loop-i : goal.invariant-loop-i
-invariant-loop-i l = Written (map (tint_of l.self.tints.codes.now l.self.four)) (picture_of l.picture.src.now) l.dst l.i l.i
+invariant-loop-i l = Written (map (tint_of l.self.request.tints.now l.self.four)) (picture_of l.self.request.src.now) l.dst l.i l.i

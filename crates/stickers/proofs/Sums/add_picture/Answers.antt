@@ -8,24 +8,24 @@ use Rattle.stickers.proofs.Sums.add_picture.Goals.{After-add_block}
 pub loop-start-init : goal.loop-start-init
 loop-start-init c =
     let self = c.args.self.now in
-    (refl, summing_first c.args.tints.codes.now (picture_of c.args.picture.src.now) self.limit self.all self.whole c.requires)
+    (refl, summing_first c.args.request.tints.now (picture_of c.args.request.src.now) self.limit self.all self.whole c.requires)
 
 pub overflow_add-least : goal.overflow_add-least
 overflow_add-least c =
-    omega (arith, c.loop-start.invariant.1.few, c.args.picture.few, c.min-count.ensures, c.fill_block-least.ensures.few, c.pixel_count-pixels.ensures)
+    omega (arith, c.loop-start.invariant.1.few, c.args.request.few, c.min-count.ensures, c.fill_block-least.ensures.few, c.pixel_count-pixels.ensures)
 
 pub add_block-requires : goal.add_block-requires
 add_block-requires c =
-    λ k h. omega (arith, c.loop-start.invariant.1.small k (omega (arith, c.loop-start.invariant.0)), c.args.picture.few, c.min-count.ensures, c.pixel_count-pixels.ensures)
+    λ k h. omega (arith, c.loop-start.invariant.1.small k (omega (arith, c.loop-start.invariant.0)), c.args.request.few, c.min-count.ensures, c.pixel_count-pixels.ensures)
 
 -- What there is after one block more.
 more :
     (c : After-add_block)
-    → Summing c.args.tints.codes.now (picture_of c.args.picture.src.now) c.args.self.now.limit c.add_block.new.self.all (c.loop-start.least + c.fill_block-least.result) (c.loop-start.start + c.min-count.result)
+    → Summing c.args.request.tints.now (picture_of c.args.request.src.now) c.args.self.now.limit c.add_block.new.self.all (c.loop-start.least + c.fill_block-least.result) (c.loop-start.start + c.min-count.result)
 more c =
     let block = c.fill_block-least.ensures in
     let added = rw c.loop-start.invariant.0 at c.add_block.ensures.added in
-    summing_more c.args.tints.codes.now (picture_of c.args.picture.src.now) c.args.self.now.limit c.loop-start.self.all _ _ c.loop-start.least _ c.loop-start.start _
+    summing_more c.args.request.tints.now (picture_of c.args.request.src.now) c.args.self.now.limit c.loop-start.self.all _ _ c.loop-start.least _ c.loop-start.start _
     c.args.self.now.within (omega (arith, c.min-count.ensures, c.pixel_count-pixels.ensures)) block.least block.few block.block added c.loop-start.invariant.1
 
 pub loop-start-preserved : goal.loop-start-preserved
@@ -35,10 +35,10 @@ loop-start-preserved c =
 
 pub returns : goal.returns
 returns c =
-    let done = summing_done c.args.tints.codes.now (picture_of c.args.picture.src.now) c.args.self.now.limit c.loop-start.self.all c.loop-start.least c.loop-start.start (omega (arith, c.pixel_count-pixels.ensures)) c.loop-start.invariant.1 in
+    let done = summing_done c.args.request.tints.now (picture_of c.args.request.src.now) c.args.self.now.limit c.loop-start.self.all c.loop-start.least c.loop-start.start (omega (arith, c.pixel_count-pixels.ensures)) c.loop-start.invariant.1 in
     record { least = done.0; sums = done.1; limit = c.loop-start.invariant.0 }
 
 pub returns-2 : goal.returns-2
 returns-2 c =
-    let done = summing_done c.args.tints.codes.now (picture_of c.args.picture.src.now) c.args.self.now.limit c.add_block.new.self.all _ _ (omega (arith, c.min-count.ensures, c.pixel_count-pixels.ensures)) (more c.before) in
+    let done = summing_done c.args.request.tints.now (picture_of c.args.request.src.now) c.args.self.now.limit c.add_block.new.self.all _ _ (omega (arith, c.min-count.ensures, c.pixel_count-pixels.ensures)) (more c.before) in
     record { least = done.0; sums = done.1; limit = c.add_block.ensures.limit ∙ c.loop-start.invariant.0 }

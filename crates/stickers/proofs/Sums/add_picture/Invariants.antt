@@ -6,4 +6,4 @@ use Rattle.stickers.proofs.Sums.add_picture.Given as goal
 
 abbrev pub invariant-loop-start : goal.invariant-loop-start
 invariant-loop-start l =
-    (l.self.limit ≡ l.initial.self.limit) × Summing l.tints.codes.now (picture_of l.picture.src.now) l.initial.self.limit l.self.all l.least l.start
+    (l.self.limit ≡ l.initial.self.limit) × Summing l.request.tints.now (picture_of l.request.src.now) l.initial.self.limit l.self.all l.least l.start

@@ -1,12 +1,9 @@
 -- The least rank of four tints is that of the tint that the pixel takes, and tells its number.
 -- Assumes nothing.
-use Prim.Native.Nat.{ℕ, ◌+◌, ◌%◌, ◌≤◌, ◌<◌, min}
+use Prim.Native.Nat.{ℕ, ◌%◌, ◌≤◌, ◌<◌, min}
 use mathlib.Core.Path.{◌≡◌, ap, ◌∙◌}
 use mathlib.Core.List.{List}
-use mathlib.Core.Logic.{⊎_elim}
 use native.Mathlib.Omega.{arith}
-use lib.ListN.{length, get_or, set}
-use lib.Seq.{get_or-set_same, get_or-set_other}
 use Rattle.samples.specs.declared.Pixel.{Pixel}
 use Rattle.esrgb.specs.declared.Depth.TheVariants.{Twelve}
 use Rattle.esrgb.specs.Depths.{greatest}
@@ -19,7 +16,6 @@ use Rattle.stickers.specs.Promise.{Ascending}
 use Rattle.stickers.specs.HowSummed.{TintCodes}
 use Rattle.stickers.specs.HowTaken.{tie_rank, rank_span, rank}
 use Rattle.stickers.proofs.Nearest.{winner-is, winners_below, tint-codes}
-use Rattle.stickers.proofs.Blocks.{last_or_before}
 
 module _ (tints : List ℕ) (codes : TintCodes tints) where
   pub luma_small : (t : ℕ) → t < tint_count → tint_luma tints t ≤ greatest 12
@@ -32,16 +28,6 @@ module _ (tints : List ℕ) (codes : TintCodes tints) where
   pub tie_rank_small : (t : ℕ) → t < tint_count → tie_rank tints t < rank_span
   unfolding tie_rank
   tie_rank_small t h = omega (arith, luma_small t h)
-
--- What decides ties, of one tint more.
-pub filled_more :
-    (tints ranks : List ℕ) (t r : ℕ) → t < length ranks → r ≡ tie_rank tints t
-    → ((k : ℕ) → k < t → get_or ranks k 0 ≡ tie_rank tints k) → (k : ℕ) → k < t + 1 → get_or (set ranks t r) k 0 ≡ tie_rank tints k
-filled_more tints ranks t r h is before k l =
-    ⊎_elim
-    (λ e. rw e (get_or-set_same ranks t r 0 h ∙ is))
-    (λ less. get_or-set_other ranks t k r 0 (λ z. omega arith) ∙ before k less)
-    (last_or_before k t l)
 
 module _ (tints : List ℕ) (codes : TintCodes tints) (p : Pixel) where
   winner-rank : (x y : ℕ) → x < y → y < tint_count → rank tints p (winner tints p x y) ≡ min (rank tints p x) (rank tints p y)

@@ -198,6 +198,8 @@ impl Request<'_> {
 //
 // The sums of all choices are made for a block of pixels at a time. In a block each tint has a row of distances,
 // so that a choice's sum is a loop over four rows, which a compiler makes of vector instructions.
+//
+// A sum is given with its bound, which the next addition needs; a type of the two would be taken apart at once.
 
 // The pixels of a block.
 const BLOCK: usize = 256;

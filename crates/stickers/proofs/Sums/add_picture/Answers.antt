@@ -1,22 +1,9 @@
 -- `stickers::Sums::add_picture` meets its contract: one block more at each turn.
-use Rattle.std.proofs.Common.{◌≡◌, ◌+◌, refl, ◌∙◌, arith}
+use Rattle.std.proofs.Common.{◌≡◌, ◌+◌, ◌∙◌, arith}
 use Rattle.stickers.specs.Stickers.{picture_of}
-use Rattle.stickers.proofs.Blocks.{Summing, summing_first, summing_more, summing_done}
+use Rattle.stickers.proofs.Blocks.{Summing, summing_more, summing_done}
 use Rattle.stickers.proofs.Sums.add_picture.Goals as goal
 use Rattle.stickers.proofs.Sums.add_picture.Goals.{After-add_block}
-
-pub loop-start-init : goal.loop-start-init
-loop-start-init c =
-    let self = c.args.self.now in
-    (refl, summing_first c.args.request.tints.now (picture_of c.args.request.src.now) self.limit self.all self.whole c.requires)
-
-pub overflow_add-least : goal.overflow_add-least
-overflow_add-least c =
-    omega (arith, c.loop-start.invariant.1.few, c.args.request.few, c.min-count.ensures, c.fill_block-least.ensures.few, c.pixel_count-pixels.ensures)
-
-pub add_block-requires : goal.add_block-requires
-add_block-requires c =
-    λ k h. omega (arith, c.loop-start.invariant.1.small k (omega (arith, c.loop-start.invariant.0)), c.args.request.few, c.min-count.ensures, c.pixel_count-pixels.ensures)
 
 -- What there is after one block more.
 more :

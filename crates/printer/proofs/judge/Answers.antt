@@ -18,7 +18,7 @@ pub returns-then-not-keeps_limits : goal.returns-then-not-keeps_limits
 returns-then-not-keeps_limits c = λ turns.
     let here = read_here _ c.loop-i.i _ c.loop-i-test.true c.from-arrival.ensures in
     let says = c.loop-i.invariant turns ∙ say_here _ _ _ c.loop-i.i c.loop-i.before _ here (sym c.keeps_limits.ensures ∙ c.if-not-keeps_limits.true) in
-    rw (c.at.ensures.0, c.at.ensures.1) (sym says)
+    rw c.at.ensures (sym says)
 
 pub loop-i-preserved : goal.loop-i-preserved
 loop-i-preserved c = λ turns.
@@ -31,7 +31,7 @@ returns-then-not-is_empty c = λ turns.
     let cut = c.as_chunks.ensures in
     let left : eqb (length c.args.numbers.now % 3) 0 ≡ false = rw cut.back_len at (sym c.is_empty.ensures ∙ c.if-not-is_empty.true) in
     let says = c.loop-i.invariant turns ∙ say_behind _ c.loop-i.i c.loop-i.before (listed c.as_chunks.result.0.now) (omega (arith, length-listed c.as_chunks.result.0.now)) in
-    rw (at.0, at.1, cut.front_len) (sym (says ∙ simp left))
+    rw (at, cut.front_len) (sym (says ∙ simp left))
 
 pub returns : goal.returns
 returns c = λ turns.

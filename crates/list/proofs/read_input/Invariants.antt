@@ -2,8 +2,8 @@
 use Rattle.std.proofs.Common.{length, ◌-◌, ◌≤◌, ◌≡◌}
 use Rattle.list.proofs.read_input.Given as goal
 
-abbrev pub invariant-loop-length : goal.invariant-loop-length
-invariant-loop-length g l = (l.length ≤ length l.file) × (length l.file ≡ length l.initial.file)
+abbrev pub invariant-loop-end : goal.invariant-loop-end
+invariant-loop-end g l = (l.end ≤ length l.file) × (length l.file ≡ length l.initial.file)
 
-abbrev pub decreases-loop-length : goal.decreases-loop-length
-decreases-loop-length g l = length l.initial.file - l.length
+abbrev pub decreases-loop-end : goal.decreases-loop-end
+decreases-loop-end g l = length l.initial.file - l.end

@@ -89,7 +89,8 @@ struct Factors {
     cr: u64,
 }
 
-// The factors where the greatest code is to the scale as p to q, and the chromas have these divisors.
+// The factors where the greatest code is to the scale as p to q, and the chromas have these divisors. The numbers
+// stand alone, since the tables below would be longer by a struct's names, and no plainer.
 fn factors_by(p: u64, q: u64, blue: u64, red: u64) -> Factors
     requires { Terms p q × ((1 ≤ blue) × (blue ≤ most_divisor)) × ((1 ≤ red) × (red ≤ most_divisor)) }
     ensures { result ≡ factors_by p q blue red }
@@ -101,7 +102,8 @@ fn factors_by(p: u64, q: u64, blue: u64, red: u64) -> Factors
     }
 }
 
-// Each arm names its numbers, so that the factors are constants to a compiler.
+// Each arm names its numbers, so that the factors are constants to a compiler. Those of e-sYCC and of sYCC are two
+// tables: a function for both would take a table, and be no plainer.
 fn esycc_factors(depth: Depth) -> Factors
     ensures { result ≡ factors_by (top depth) (bottom depth) 3544 2804 }
 {
@@ -290,6 +292,7 @@ fn rows_by(p: u64, q: u64, grey: u32) -> Rows
     }
 }
 
+// Two tables again.
 fn esycc_rows(depth: Depth) -> Rows
     ensures { result ≡ rows_by (back_top depth) (2 * back_half depth) (middle (bits depth)) }
 {

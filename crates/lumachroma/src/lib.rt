@@ -131,11 +131,7 @@ impl<const DEN: u32> Difference<DEN> {
     fn biased_quotient(self) -> u32
         ensures { Biased (1000 * self.entry.channel) (weighted self.entry.pixel) DEN result }
     {
-        let tie = if luma_of(self.pixel) < self.channel {
-            1
-        } else {
-            0
-        };
+        let tie = u32::from(luma_of(self.pixel) < self.channel);
         let dividend = DEN * BIAS + DEN / 2 + 1000 * (self.channel as u32)
             - (weighted_sum(self.pixel) as u32)
             - tie;
@@ -247,8 +243,8 @@ fn green_of(start: u64, luma: u16, cb: u16, cr: u16) -> u32
     (luma as u32) + (((start - shares) / GREEN_UNIT) as u32)
 }
 
-// A sum clipped to the codes with this middle code. On the way back the middle stands for the depth, so
-// that a loop works it out once.
+// A sum clipped to the codes with this middle code, by clamp, of which the compiler makes no jump. On the way
+// back the middle stands for the depth, so that a loop works it out once.
 fn clip(middle: u32, sum: u32) -> u16
     requires { Middle middle }
     ensures { result ≡ min (2 * middle - 1) (sum - lift) }

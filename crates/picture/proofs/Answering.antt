@@ -11,14 +11,13 @@ use Rattle.refusal.specs.declared.Refusal.{Refusal}
 use Rattle.refusal.specs.declared.Refusal.TheVariants.{DepthNotOffered}
 use Rattle.refusal.specs.declared.Fault.{Fault}
 use Rattle.refusal.specs.Answers.{Said, accepted, refused, refused_at, nowhere, fault_said, leaves}
-use Rattle.samples.specs.declared.Coding.{Coding}
 use Rattle.samples.specs.Faults.{source_says}
 use Rattle.samples.proofs.Order.{source_exact}
 use Rattle.picture.specs.declared.Conversion.{Conversion}
-use Rattle.picture.specs.declared.Work.{Work}
+use Rattle.picture.specs.declared.Plan.{Plan}
 use Rattle.picture.specs.declared.Converted.{Converted}
 use Rattle.picture.specs.Convert.{offers, convert_says, converted, convert_bytes, clipped_in, convert_clips, converted_said, clips_of}
-use Rattle.picture.specs.HowConverted.{writes_wide, made, counted, Plans}
+use Rattle.picture.specs.HowConverted.{writes_wide, made, counted, Plans, plan_says}
 
 -- What is left does not depend on what would be written, unless it is accepted.
 same_left : {A : Type 0} (s : Said) (new new' old : A) → ((n : ℕ) → s ≡ accepted n → new ≡ new') → leaves s new old ≡ leaves s new' old
@@ -38,17 +37,15 @@ module _ (c : Conversion) (src dst : List ℕ) where
   unfolding source_says
   not_offered h = rw h
 
-  module _ (coding : Coding) (work : Work) (p : Plans c coding work) where
-    pub planned_says : source_says true coding (writes_wide work) src (length dst) ≡ convert_says c src (length dst)
+  module _ (plan : Plan) (p : Plans c plan.coding plan.work) where
+    pub planned_says : plan_says plan src (length dst) ≡ convert_says c src (length dst)
     planned_says = rw (p.offered, p.coding-is, p.writes)
 
-    pub planned_leaves :
-        leaves (source_says true coding (writes_wide work) src (length dst)) (made work src) dst ≡ convert_bytes c src dst
+    pub planned_leaves : leaves (plan_says plan src (length dst)) (made plan.work src) dst ≡ convert_bytes c src dst
     planned_leaves =
-        same_left (source_says true coding (writes_wide work) src (length dst)) (made work src) (converted c src) dst
-        (λ n h. p.makes src (source_exact true coding (writes_wide work) src (length dst) n h).whole)
+        same_left (plan_says plan src (length dst)) (made plan.work src) (converted c src) dst
+        (λ n h. p.makes src (source_exact true plan.coding (writes_wide plan.work) src (length dst) n h).whole)
         ∙ ap (λ s. leaves s (converted c src) dst) planned_says
 
-    pub planned_clips :
-        leaves (source_says true coding (writes_wide work) src (length dst)) (counted work src) 0 ≡ convert_clips c src (length dst)
+    pub planned_clips : leaves (plan_says plan src (length dst)) (counted plan.work src) 0 ≡ convert_clips c src (length dst)
     planned_clips = rw (p.counts src) (ap (λ s. leaves s (clipped_in c src) 0) planned_says)

@@ -4,10 +4,11 @@ use Rattle.std.specs.Prelude.{ℕ, ◌%◌, ◌≡◌, Bool, true, false, ◌||�
 use Rattle.numbers.specs.Counting.{how_many}
 use Rattle.refusal.specs.declared.Refusal.{Refusal}
 use Rattle.refusal.specs.declared.Refusal.TheVariants.{DepthNotOffered}
+use Rattle.refusal.specs.Answers.{Said}
 use Rattle.samples.specs.declared.Pixel.{Pixel}
 use Rattle.samples.specs.declared.Coding.{Coding}
 use Rattle.samples.specs.Samples.{pixel_size, samples_of, bytes_of, read}
-use Rattle.samples.specs.Faults.{wide_coding}
+use Rattle.samples.specs.Faults.{wide_coding, source_says}
 use Rattle.esrgb.specs.Depths.{bits}
 use Rattle.esrgb.specs.declared.Gamut.{Gamut}
 use Rattle.esrgb.specs.HowApplied.{affine, to_eight, changed, cut_of, outside}
@@ -98,3 +99,7 @@ pub record Plans (c : Conversion) (coding : Coding) (work : Work) : Type 0 where
 abbrev pub Planned : Conversion → Result Plan Refusal → Type 0
 Planned c (Ok plan) = Plans c plan.coding plan.work
 Planned c (Err r) = (offers c ≡ false) × (r ≡ DepthNotOffered)
+
+-- What a plan says of a source, for a destination of `room` bytes.
+abbrev pub plan_says : Plan → List ℕ → ℕ → Said
+plan_says plan src room = source_says true plan.coding (writes_wide plan.work) src room

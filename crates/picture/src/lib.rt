@@ -3,19 +3,16 @@
 // and an accepted one leaves the source's pixels, converted one by one.
 #![tactic(auto)]
 
-ghost use Rattle.std.specs.Prelude.{◌≡◌, true, false, [], ◌∷◌, ◌++◌, map, ◌*◌, ◌+◌, ◌≤◌, min, length, take};
+ghost use Rattle.std.specs.Prelude.{◌≡◌, true, false, [], ◌∷◌, ◌++◌, map, ◌*◌, ◌+◌, ◌≤◌, length, take};
 ghost use Rattle.numbers.specs.Counting.{how_many};
 ghost use Rattle.refusal.specs.Answers.{leaves};
 ghost use Rattle.samples.specs.Samples.{place, samples_of, sample_bytes, bytes_of, read, write};
-ghost use Rattle.samples.specs.Faults.{Exact, wide_coding, source_says};
+ghost use Rattle.samples.specs.Faults.{Exact, wide_coding};
 ghost use Rattle.esrgb.specs.Depths.{bits, greatest};
 ghost use Rattle.esrgb.specs.HowApplied.{to_eight, changed, gamut_of};
-ghost use Rattle.lumachroma.specs.LumaChroma.{to_luma_chroma, to_rgb};
-ghost use Rattle.esycc.specs.Esycc.{to_esycc, from_esycc};
-ghost use Rattle.esycc.specs.Sycc.{to_sycc, from_sycc};
 ghost use Rattle.picture.specs.Forms.{wide_form};
 ghost use Rattle.picture.specs.Convert.{source, target, converted, convert_says, convert_bytes, clipped, convert_clips, converted_said, clips_of};
-ghost use Rattle.picture.specs.HowConverted.{done_by, sides_of, narrowed, Gives, block_size, some_outside, pixel_outside, reads_wide, writes_wide, made, counted, Planned};
+ghost use Rattle.picture.specs.HowConverted.{done_by, sides_of, narrowed, Gives, block_size, some_outside, pixel_outside, reads_wide, writes_wide, made, counted, Planned, plan_says};
 
 use esrgb::{Cut, Depth, DepthChange, Gamut, Line, SampleRule};
 use numbers::{raised, rank_of, two_bytes};
@@ -419,9 +416,9 @@ pub struct Converted {
 // A conversion whose depths are offered: judged first, and then written.
 fn run(plan: Plan, src: &[u8], dst: &mut [u8]) -> Result<Converted, Fault>
     requires { wide_coding plan.coding ≡ reads_wide plan.work }
-    ensures answer { converted_said result ≡ source_says true plan.coding (writes_wide plan.work) src.now (length dst.old) }
-    ensures bytes { dst.new ≡ leaves (source_says true plan.coding (writes_wide plan.work) src.now (length dst.old)) (made plan.work src.now) dst.old }
-    ensures clips { clips_of result ≡ leaves (source_says true plan.coding (writes_wide plan.work) src.now (length dst.old)) (counted plan.work src.now) 0 }
+    ensures answer { converted_said result ≡ plan_says plan src.now (length dst.old) }
+    ensures bytes { dst.new ≡ leaves (plan_says plan src.now (length dst.old)) (made plan.work src.now) dst.old }
+    ensures clips { clips_of result ≡ leaves (plan_says plan src.now (length dst.old)) (counted plan.work src.now) 0 }
 {
     let pixels = samples::examine(plan.coding, writes_wide(plan.work), src, dst.len())?;
     let clipped = fill(plan.work, src, dst);

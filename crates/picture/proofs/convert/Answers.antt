@@ -26,7 +26,7 @@ pub returns : goal.returns
 returns c =
     let a = c.args in
     record {
-      answer = c.run.ensures.answer ∙ planned_says a.conversion a.src.now a.dst.now _ _ c.in_ok-plan.ensures;
-      bytes = c.run.ensures.bytes ∙ planned_leaves a.conversion a.src.now a.dst.now _ _ c.in_ok-plan.ensures;
-      clips = c.run.ensures.clips ∙ planned_clips a.conversion a.src.now a.dst.now _ _ c.in_ok-plan.ensures;
+      answer = c.run.ensures.answer ∙ planned_says a.conversion a.src.now a.dst.now _ c.in_ok-plan.ensures;
+      bytes = c.run.ensures.bytes ∙ planned_leaves a.conversion a.src.now a.dst.now _ c.in_ok-plan.ensures;
+      clips = c.run.ensures.clips ∙ planned_clips a.conversion a.src.now a.dst.now _ c.in_ok-plan.ensures;
     }

@@ -4,7 +4,7 @@ use Prim.Native.Nat.{ℕ, ◌<◌, ◌≤◌}
 use mathlib.Core.Path.{◌≡◌, refl, sym, ap, subst, ◌∙◌}
 use mathlib.Core.List.{List, map}
 use native.Mathlib.Omega.{arith}
-use Rattle.std.specs.Prelude.{Option, None, Some, Err}
+use Rattle.std.specs.Prelude.{Option, None, Some, Result, Ok, Err}
 use Rattle.refusal.specs.declared.Refusal.{Refusal}
 use Rattle.refusal.specs.declared.Fault.{Fault}
 use Rattle.refusal.specs.Refusals.{number_of}
@@ -22,44 +22,44 @@ never : (P : Type 0) → ◌≡◌ {A = ℕ} 0 1 → P
 never P e = absurd (omega arith)
 
 module _ (src tints : List ℕ) (budget room : ℕ) where
+  abbrev pub Meets : Result Choice Fault → List ℕ → List ℕ → Type 0
+  Meets r before after =
+      (chosen_said r ≡ stickers_says src tints budget room)
+      × ((after ≡ leaves (request_says src tints budget room) (stickers src tints budget) before)
+      × ((choice : Choice) → r ≡ Ok choice → Promised tints (picture_of src) budget choice))
+
   pub accepts :
       (n : ℕ) (choice : Choice) (before after : List ℕ) → request_says src tints budget room ≡ accepted n → 0 < budget
-      → choice ≡ choice_of tints (picture_of src) budget → after ≡ map (tint_of tints choice.four) (picture_of src)
-      → (chooses choice ≡ stickers_says src tints budget room)
-      × ((after ≡ leaves (request_says src tints budget room) (stickers src tints budget) before)
-      × Promised tints (picture_of src) budget choice)
+      → choice ≡ choice_of tints (picture_of src) budget → after ≡ map (tint_of tints choice.four) (picture_of src) → Meets (Ok choice) before after
   unfolding stickers_says stickers choice_of
   accepts n choice before after says some is bytes = (
     rw (says, is) refl,
     (
       bytes ∙ ap (λ x. map (tint_of tints x.four) (picture_of src)) is ∙ sym (ap (λ s. leaves s (stickers src tints budget) before) says),
-      subst (Promised tints (picture_of src) budget) (sym is) (choice_promised tints (picture_of src) budget some),
+      λ other e.
+          let same : choice ≡ other = cc in
+          subst (Promised tints (picture_of src) budget) (sym is ∙ same) (choice_promised tints (picture_of src) budget some),
     ),
   )
 
-  refuses_at_place : (number : ℕ) (place : Option ℕ) → request_says src tints budget room ≡ at_place number place → refuses_by number place ≡ stickers_says src tints budget room
+  refuses_where : (number : ℕ) (place : Option ℕ) → request_says src tints budget room ≡ at_place number place → refuses_by number place ≡ stickers_says src tints budget room
   unfolding stickers_says
-  refuses_at_place number None says = rw says refl
-  refuses_at_place number (Some at) says = rw says refl
+  refuses_where number None says = rw says refl
+  refuses_where number (Some at) says = rw says refl
 
   stays : (number : ℕ) (place : Option ℕ) (before : List ℕ) → request_says src tints budget room ≡ at_place number place
       → before ≡ leaves (request_says src tints budget room) (stickers src tints budget) before
   stays number None before says = rw says refl
   stays number (Some at) before says = rw says refl
 
-  pub refuses :
-      (fault : Fault) (before : List ℕ) → request_says src tints budget room ≡ fault_said fault
-      → (chosen_said (Err fault) ≡ stickers_says src tints budget room)
-      × (before ≡ leaves (request_says src tints budget room) (stickers src tints budget) before)
+  pub refuses : (fault : Fault) (before : List ℕ) → request_says src tints budget room ≡ fault_said fault → Meets (Err fault) before before
   refuses fault before says = (
-    refuses_at_place (number_of fault.refusal) fault.place says,
-    stays (number_of fault.refusal) fault.place before says,
+    refuses_where (number_of fault.refusal) fault.place says,
+    (stays (number_of fault.refusal) fault.place before says, λ choice e. never (Promised tints (picture_of src) budget choice) cc),
   )
 
   pub refuses-at :
-      (r : Refusal) (at : ℕ) (before : List ℕ) → request_says src tints budget room ≡ refused_at (number_of r) at
-      → (chosen_said (Err (somewhere r at)) ≡ stickers_says src tints budget room)
-      × (before ≡ leaves (request_says src tints budget room) (stickers src tints budget) before)
+      (r : Refusal) (at : ℕ) (before : List ℕ) → request_says src tints budget room ≡ refused_at (number_of r) at → Meets (Err (somewhere r at)) before before
   refuses-at r at before says = refuses (somewhere r at) before says
 
 -- ---- what an answer tells of the request

@@ -43,7 +43,7 @@ pub record Searching (sum : Four → ℕ) (limit : ℕ) (top : Summed) (k : ℕ)
   pub summed : top.sum ≡ sum top.four
   pub found : best sum (looked_at limit) ≡ best_from sum top.four (drop k (looked_at limit))
 
--- The first of two numbers is taken unless the second is smaller.
+-- The first of two is taken unless the second has a smaller sum.
 smaller_is : (x y : ℕ) → is_lt (nat_cmp x y) ≡ ltb x y
 smaller_is x y = by (ltb x y) (eqb x y)
   where
@@ -51,6 +51,9 @@ smaller_is x y = by (ltb x y) (eqb x y)
     by true same = refl
     by false true = refl
     by false false = refl
+
+pub first_least : (top later : Summed) → ord_min (on (λ (s : Summed). s.sum) nat_cmp) top later ≡ cond (ltb later.sum top.sum) later top
+first_least top later = ap (λ b. cond b later top) (smaller_is later.sum top.sum)
 
 module _ (sum : Four → ℕ) (limit : ℕ) (most : limit ≤ length choices) where
   pub searching_first : (top : Summed) → 0 < limit → top.four ≡ first_choice → top.sum ≡ sum first_choice → Searching sum limit top 1
@@ -68,20 +71,19 @@ module _ (sum : Four → ℕ) (limit : ℕ) (most : limit ≤ length choices) wh
 
   pub searching_more :
       (top later next : Summed) (k : ℕ) → k < limit → later.four ≡ get_or choices k first_choice → later.sum ≡ sum (get_or choices k first_choice)
-      → next ≡ ord_min (on (λ (s : Summed). s.sum) nat_cmp) top later → Searching sum limit top k → Searching sum limit next (k + 1)
+      → next ≡ cond (ltb later.sum top.sum) later top → Searching sum limit top k → Searching sum limit next (k + 1)
   unfolding best_from
   searching_more top later next k h is s e r =
       let g = get_or choices k first_choice in
-      let is_one : next ≡ cond (ltb later.sum top.sum) later top = e ∙ ap (λ b. cond b later top) (smaller_is later.sum top.sum) in
       let one = better top later (ltb later.sum top.sum) r.summed (s ∙ ap sum (sym is)) in
       let four_is : next.four ≡ cond (ltb (sum g) (sum top.four)) g top.four =
-      ap (λ x. x.four) is_one
+      ap (λ x. x.four) e
       ∙ one.1
       ∙ ap (λ x. cond (ltb x top.sum) later.four top.four) s
       ∙ ap (λ x. cond (ltb (sum g) x) later.four top.four) r.summed
       ∙ ap (λ x. cond (ltb (sum g) (sum top.four)) x top.four) is in
       record {
-        summed = ap (λ x. x.sum) is_one ∙ one.0 ∙ ap (λ x. sum x.four) (sym is_one);
+        summed = ap (λ x. x.sum) e ∙ one.0 ∙ ap (λ x. sum x.four) (sym e);
         found =
             r.found
             ∙ ap (best_from sum top.four) (looked_next limit k most h)

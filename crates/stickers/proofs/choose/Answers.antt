@@ -1,9 +1,8 @@
 -- `stickers::choose` meets its contract: an accepted request is searched and written, and a refused one changes nothing.
-use Rattle.std.proofs.Common.{◌≡◌, Err, rules, subst, sym, ap, ◌∙◌, arith, length, map}
+use Rattle.std.proofs.Common.{◌≡◌, Err, rules, sym, ap, ◌∙◌, arith, length, map}
 use Rattle.refusal.specs.Answers.{accepted}
 use Rattle.stickers.specs.Choices.{choice_of, tint_of}
 use Rattle.stickers.specs.Stickers.{request_says, picture_of}
-use Rattle.stickers.specs.Promise.{Promised}
 use Rattle.stickers.proofs.Best.{choice_allowed, found_ascends}
 use Rattle.stickers.proofs.Requests.{SoundRequest, request_sound, length_picture}
 use Rattle.stickers.proofs.Answers.{accepts, refuses}
@@ -50,7 +49,7 @@ returns c =
     ∙ ap (λ q. map (tint_of q.tints.now c.of.result.four) (picture_of q.src.now)) palette.request
     ∙ ap (λ f. map (tint_of tints f) picture) palette.four in
     let meets = accepts a.src.now tints a.budget (length a.dst.now) _ _ a.dst.now _ (says (goal.at.returns c).In_ok-limit) (omega arith) is bytes in
-    record { answer = meets.0; bytes = meets.1.0; promise = λ other e. let same : c.search-choice.result ≡ other = cc in subst (Promised tints picture a.budget) same meets.1.1 }
+    record { answer = meets.0; bytes = meets.1.0; promise = meets.1.1 }
 
 pub returns-in_err-limit-clause-answer : goal.returns-in_err-limit-clause-answer
 returns-in_err-limit-clause-answer c =

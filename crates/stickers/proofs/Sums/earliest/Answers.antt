@@ -6,7 +6,7 @@ use Rattle.std.proofs.lemmas.List.Sorted.{answers_always}
 use Rattle.stickers.specs.Choices.{choices, first_choice}
 use Rattle.stickers.specs.HowSummed.{after}
 use Rattle.stickers.proofs.InOrder.{first-at, next_at}
-use Rattle.stickers.proofs.Best.{searching_first, searching_more, searching_done}
+use Rattle.stickers.proofs.Best.{searching_first, searching_more, searching_done, first_least}
 use Rattle.stickers.proofs.Sums.earliest.Goals as goal
 
 pub loop-sum-init : goal.loop-sum-init
@@ -27,7 +27,7 @@ loop-sum-preserved c =
     ∙ get_or_after_one self.all c.loop-sum.sum-index 0
     ∙ ap (λ j. get_or self.all j 0) (add_comm 1 c.loop-sum.sum-index) in (
       λ h. ap after is ∙ sym (next_at k h),
-      λ sum sums. searching_more sum self.limit self.within c.loop-sum.best _ _ k (omega arith) is (read ∙ sums k (omega arith)) (c.min_by_key-best.ensures (λ x. x.sum) (answers_always _ _ _ (λ f a r g h. search rules))) (c.loop-sum.invariant.1 sum sums),
+      λ sum sums. searching_more sum self.limit self.within c.loop-sum.best _ _ k (omega arith) is (read ∙ sums k (omega arith)) (c.min_by_key-best.ensures (λ x. x.sum) (answers_always _ _ _ (λ f a r g h. search rules)) ∙ first_least c.loop-sum.best _) (c.loop-sum.invariant.1 sum sums),
     )
 
 pub returns : goal.returns

@@ -117,8 +117,14 @@ module _ (rs : List FrameRecord) (shop : ℕ) (old : List ℕ) where
   all true e = many (records_say (accepted (summed 0 rs)) 0 rs) (ltb-true _ _ e)
   all false e = by_check (ltb-false _ _ e) (check rs 0)
 
-pub is-laid : (rs : List FrameRecord) (shop : ℕ) (old : List ℕ) (r : Answer) (new : List ℕ) → state_of r new ≡ laid rs shop old → LaidOut rs shop old r new
-unfolding laid
-is-laid rs shop old r new e =
-    let ends = all rs shop old (ltb frame_limit (length rs)) refl in
-    (ap (λ (z : State). z.says) e ∙ ends.0, ap (λ (z : State). z.bytes) e ∙ ends.1)
+-- What the passes leave, with what stands between them.
+module _ (rs : List FrameRecord) (shop : ℕ) (old : List ℕ) (r : Answer) (new : List ℕ) where
+  all_laid : state_of r new ≡ laid rs shop old → LaidOut rs shop old r new
+  unfolding laid
+  all_laid e =
+      let ends = all rs shop old (ltb frame_limit (length rs)) refl in
+      (ap (λ (z : State). z.says) e ∙ ends.0, ap (λ (z : State). z.bytes) e ∙ ends.1)
+
+  pub is-laid : {says : Said} {z : State} → says ≡ records_say (accepted (summed 0 rs)) 0 rs → z ≡ readied Plain (length rs) shop says old → state_of r new ≡ walked Plain rs 0 z → LaidOut rs shop old r new
+  unfolding laid
+  is-laid checked ready written = all_laid (written ∙ ap (walked Plain rs 0) (ready ∙ ap (λ (s : Said). readied Plain (length rs) shop s old) checked))

@@ -42,13 +42,11 @@ pub fn check(end: usize, place: usize, frame: FrameRecord) -> Answer
 }
 
 // Writes the record of frame number `place`, with its pixels at `end`, if it has a place there.
+#[tactic(auto, using(crate::proofs::Written::record_taken, crate::proofs::Written::puts_record), unfolding(crate::specs::HowLaidOut::record_written))]
 fn write_record(dst: &mut [u8], layout: Layout, place: usize, end: usize, frame: FrameRecord)
     ensures { dst.new ≡ record_written layout place end frame dst.old }
 {
-    if FRAME_LIMIT <= place {
-        return;
-    }
-    if LENGTH_LIMIT < end {
+    if FRAME_LIMIT <= place || LENGTH_LIMIT < end {
         return;
     }
     let size = record_size(layout);
@@ -99,6 +97,7 @@ fn begin(layout: Layout, count: usize, shop: u16, pixels: usize, dst: &mut [u8])
 
 // Between the pass that checks and the pass that writes: the refusals in the rule's order, and the
 // header. `checked` is what the first pass answers; the second starts where this one's answer says.
+#[tactic(auto, using(crate::proofs::Begun::begun_stopped), unfolding(crate::specs::HowLaidOut::readied))]
 pub fn ready(layout: Layout, count: usize, shop: u16, checked: Answer, dst: &mut [u8]) -> Answer
     ensures { state_of result dst.new ≡ readied layout count shop (said checked) dst.old }
 {
@@ -111,6 +110,7 @@ pub fn ready(layout: Layout, count: usize, shop: u16, checked: Answer, dst: &mut
 // ---- the passes
 
 // The pass that checks: the first record at fault, or the bytes of all pixels.
+#[tactic(auto, using(crate::proofs::Passes::check_more, crate::proofs::Passes::check_ended, crate::proofs::Passes::check_none))]
 fn check_records(records: &[FrameRecord]) -> Answer
     ensures { said result ≡ records_say (accepted (summed 0 records.now)) 0 records.now }
 {
@@ -122,6 +122,7 @@ fn check_records(records: &[FrameRecord]) -> Answer
 }
 
 // The pass that writes, in a plain spool whose pixels start at `first`.
+#[tactic(auto, using(crate::proofs::Checking::stays, crate::proofs::Passes::one_more, crate::proofs::Passes::none_left))]
 fn write_records(records: &[FrameRecord], first: usize, dst: &mut [u8]) -> Answer
     ensures { state_of result dst.new ≡ walked Plain records.now 0 (starts first dst.old) }
 {

@@ -18,7 +18,7 @@ use Rattle.refusal.specs.Refusals.{number_of}
 use Rattle.records.specs.declared.FrameRecord.{FrameRecord}
 use Rattle.records.specs.declared.Header.{Header}
 use Rattle.records.specs.declared.Layout.{Layout}
-use Rattle.records.specs.Layout.{header_of, header_size, header_bytes}
+use Rattle.records.specs.Layout.{layout_of, other_layout, header_of, header_size, header_bytes}
 use Rattle.records.specs.Faults.{frame_limit}
 use Rattle.spool.specs.declared.Contents.{Contents}
 use Rattle.spool.specs.Open.{open_fault, open_said, open_says}
@@ -129,13 +129,19 @@ module _ (spool : OpenSpool) (d : List ℕ) where
   begun_by e f g h is =
       subst Begun (sym (is ∙ rw (f, g, h, e) (ap (λ (k : ℕ). readied l k shop (frames_say file (accepted (all_pixels rs)) count 0) d) (sym (how_many_lem file))))) (by_check (check file count 0))
 
-  pub begun : {m : Layout} {says : Said} {z : State} → m ≡ l → says ≡ frames_say file (accepted (all_pixels rs)) spool.count 0 → z ≡ readied m spool.count spool.shop says d → Begun z
-  begun to checked is = begun_by spool.counted spool.owned to checked is
+  begun : {k m : Layout} {says : Said} {z : State} → k ≡ layout_of file → m ≡ other_layout k → says ≡ frames_say file (accepted (all_pixels rs)) spool.count 0
+      → z ≡ readied m spool.count spool.shop says d → Begun z
+  begun of to checked is = begun_by spool.counted spool.owned (to ∙ ap other_layout of) checked is
 
   -- Refused, the answer is the operation's, and the destination is as it was.
-  pub refused_ends : {z : State} → Begun z → Refuses z.says → (z.says ≡ relayout_says file (length d)) × (z.bytes ≡ leaves (relayout_says file (length d)) (relaid file) d)
+  refused_ends : {z : State} → Begun z → Refuses z.says → (z.says ≡ relayout_says file (length d)) × (z.bytes ≡ leaves (relayout_says file (length d)) (relaid file) d)
   refused_ends (ends s turned says e b) refuses = (e ∙ sym says, b ∙ refuses-leaves s (relaid file) d turned ∙ ap (λ (x : Said). leaves x (relaid file) d) (sym says))
   refused_ends (writes all small room says is) refuses = absurd (subst Refuses (ap (λ (y : State). y.says) is) refuses)
+
+  pub turned_away : (f : Fault) {k m : Layout} {says : Said} {d' : List ℕ} → k ≡ layout_of file → m ≡ other_layout k → says ≡ frames_say file (accepted (all_pixels rs)) spool.count 0
+      → stopped (fault_said f) d' ≡ readied m spool.count spool.shop says d
+      → (fault_said f ≡ relayout_says file (length d)) × (d' ≡ leaves (relayout_says file (length d)) (relaid file) d)
+  turned_away f of to checked is = refused_ends (begun of to checked is) (fault_refuses f)
 
   -- Accepted so far, all frames are sound, and there is room for their pixels.
   pub record Goes (z : State) (first : ℕ) : Type 0 where
@@ -146,10 +152,14 @@ module _ (spool : OpenSpool) (d : List ℕ) where
     pub is : z ≡ begins
     pub starts : first ≡ pixels_from l (length rs)
 
-  pub goes : {z : State} {first : ℕ} → Begun z → accepted first ≡ z.says → Goes z first
-  goes (ends s turned says e b) a = absurd (subst Refuses (sym e ∙ sym a) turned)
-  goes (writes all small room says is) a =
+  goes_by : {z : State} {first : ℕ} → Begun z → accepted first ≡ z.says → Goes z first
+  goes_by (ends s turned says e b) a = absurd (subst Refuses (sym e ∙ sym a) turned)
+  goes_by (writes all small room says is) a =
       record { all = all; small = small; room = room; says = says; is = is; starts = let same = a ∙ ap (λ (y : State). y.says) is in cc }
+
+  pub goes : {k m : Layout} {says : Said} {first : ℕ} {d' : List ℕ} → k ≡ layout_of file → m ≡ other_layout k → says ≡ frames_say file (accepted (all_pixels rs)) spool.count 0
+      → starts first d' ≡ readied m spool.count spool.shop says d → Goes (starts first d') first
+  goes of to checked is = goes_by (begun of to checked is) refl
 
   module _ {z : State} {first : ℕ} (g : Goes z first) where
     bytes-length : length (pixels_of file) ≡ all_pixels rs
@@ -191,11 +201,11 @@ module _ (spool : OpenSpool) (d : List ℕ) where
         ∙ sym (spool-is (pixels_of file))
 
     -- What the table leaves, with the pixels copied over it.
-    module _ {s : Said} {w : List ℕ} (table : stopped s w ≡ walked l rs 0 z) where
+    module _ {k m : Layout} {s : Said} {w : List ℕ} (of : k ≡ layout_of file) (to : m ≡ other_layout k) (table : stopped s w ≡ walked m rs 0 z) where
       out : stopped s w ≡ stopped (accepted total) (spool_bytes l rs shop tail)
       out =
           let ends = written_out l rs shop d few_here (records_fine file count 0 g.all) g.small g.room in
-          table ∙ ap (walked l rs 0) g.is ∙ ap₂ stopped ends.0 ends.1
+          table ∙ ap (λ (x : Layout). walked x rs 0 z) (to ∙ ap other_layout of) ∙ ap (walked l rs 0) g.is ∙ ap₂ stopped ends.0 ends.1
 
       pub accepts : s ≡ accepted total
       accepts = ap (λ (y : State). y.says) out

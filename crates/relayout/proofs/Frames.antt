@@ -28,11 +28,11 @@ use Rattle.relayout.specs.Relayout.{records_from, frames_say, frame_pixels_from}
 
 -- What is found of a frame that the spool has: its record, which is sound, or the record's fault.
 module _ (file : List ℕ) (k : ℕ) (opens : open_fault file ≡ sound) (below : k < (header_of file).count) {f : Found} (said : find_said f ≡ says_of false file k) where
-  pub frame-sound : {s : StridedRecord} → f ≡ Ok s → (frame_fault false file (record_at file k) ≡ sound) × (s ≡ record_at file k)
-  frame-sound e = finds-sound (frame_fault false file (record_at file k)) (ap find_said (sym e) ∙ said ∙ sym (by_record false file k opens below refl))
+  pub frame_sound : {s : StridedRecord} → f ≡ Ok s → (frame_fault false file (record_at file k) ≡ sound) × (s ≡ record_at file k)
+  frame_sound e = finds-sound (frame_fault false file (record_at file k)) (ap find_said (sym e) ∙ said ∙ sym (by_record false file k opens below refl))
 
-  pub frame-faulty : {r : Refusal} → f ≡ Err r → frame_fault false file (record_at file k) ≡ faulty (number_of r)
-  frame-faulty e = refuses-faulty (frame_fault false file (record_at file k)) (record_at file k) (ap find_said (sym e) ∙ said ∙ sym (by_record false file k opens below refl))
+  pub frame_faulty : {r : Refusal} → f ≡ Err r → frame_fault false file (record_at file k) ≡ faulty (number_of r)
+  frame_faulty e = refuses-faulty (frame_fault false file (record_at file k)) (record_at file k) (ap find_said (sym e) ∙ said ∙ sym (by_record false file k opens below refl))
 
 -- A fault with a place says it.
 pub said_there : (f : Fault) (k : ℕ) → f.place ≡ Some k → fault_said f ≡ refused_at (number_of f.refusal) k
@@ -50,13 +50,13 @@ module _ (file : List ℕ) (count k : ℕ) where
   unfolding records_from
   records_more below = rw (left below)
 
-  pub pixels-more : k < count → frame_pixels_from file (count - k) k ≡ frame_pixels file k ++ frame_pixels_from file (count - (k + 1)) (k + 1)
+  pub pixels_more : k < count → frame_pixels_from file (count - k) k ≡ frame_pixels file k ++ frame_pixels_from file (count - (k + 1)) (k + 1)
   unfolding frame_pixels_from
-  pixels-more below = rw (left below)
+  pixels_more below = rw (left below)
 
-  pub pixels-none : count ≤ k → frame_pixels_from file (count - k) k ≡ []
+  pub pixels_none : count ≤ k → frame_pixels_from file (count - k) k ≡ []
   unfolding frame_pixels_from
-  pixels-none past = rw (none_left past)
+  pixels_none past = rw (none_left past)
 
   says-more : (done : Said) → k < count → frame_fault false file (record_at file k) ≡ sound → frames_say file done (count - k) k ≡ frames_say file done (count - (k + 1)) (k + 1)
   unfolding frames_say
@@ -71,20 +71,19 @@ module _ (file : List ℕ) (count k : ℕ) where
       sym (says-more (accepted (total + n + all_pixels rest)) below good)
       ∙ ap (λ (m : ℕ). frames_say file (accepted m) (count - k) k) (add_assoc total n (all_pixels rest) ∙ ap (λ (m : ℕ). total + (m + all_pixels rest)) e ∙ ap (λ (rs : List FrameRecord). total + all_pixels rs) (sym (records_more below)))
 
-  pub sum-faulty : (done : Said) {n : ℕ} → k < count → frame_fault false file (record_at file k) ≡ faulty n → refused_at n k ≡ frames_say file done (count - k) k
+  pub sum_faulty : (done : Said) {n : ℕ} → k < count → frame_fault false file (record_at file k) ≡ faulty n → refused_at n k ≡ frames_say file done (count - k) k
   unfolding frames_say
-  sum-faulty done below bad = rw (left below, bad)
+  sum_faulty done below bad = rw (left below, bad)
 
-  pub sum-none : (total : ℕ) → count ≤ k → accepted total ≡ frames_say file (accepted (total + all_pixels (records_from file (count - k) k))) (count - k) k
+  pub sum_none : (total : ℕ) → count ≤ k → accepted total ≡ frames_say file (accepted (total + all_pixels (records_from file (count - k) k))) (count - k) k
   unfolding frames_say records_from
-  sum-none total past = rw (none_left past, add-zero total)
+  sum_none total past = rw (none_left past, add-zero total)
 
   -- The pass that writes the table.
   module _ (l : Layout) (z : State) where
-    pub walk_more : {r : FrameRecord} → k < count → r ≡ (record_at file k).frame
-        → walked l (records_from file (count - k) k) k z ≡ walked l (records_from file (count - (k + 1)) (k + 1)) (k + 1) (visited l z k r)
+    pub walk_more : k < count → walked l (records_from file (count - k) k) k z ≡ walked l (records_from file (count - (k + 1)) (k + 1)) (k + 1) (visited l z k (record_at file k).frame)
     unfolding walked
-    walk_more below e = rw (records_more below, e)
+    walk_more below = rw (records_more below)
 
     pub walk_none : count ≤ k → walked l (records_from file (count - k) k) k z ≡ z
     unfolding walked records_from

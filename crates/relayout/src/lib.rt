@@ -44,6 +44,7 @@ impl<'a> OpenSpool<'a> {
     }
 
     // The frames: the first one at fault, or the bytes of all their pixels.
+    #[tactic(auto, using(crate::proofs::Frames::said_there, crate::proofs::Frames::sum_more, crate::proofs::Frames::sum_faulty, crate::proofs::Frames::sum_none))]
     fn check_frames(&self) -> Answer
         ensures { said result ≡ frames_say self.now.file.now (accepted (all_pixels (records_of self.now.file.now))) self.now.count 0 }
     {
@@ -55,6 +56,7 @@ impl<'a> OpenSpool<'a> {
     }
 
     // Writes the table of sound frames, so that none of them is refused here.
+    #[tactic(auto, using(layout::proofs::Checking::stays, crate::proofs::Frames::walk_more, crate::proofs::Frames::walk_none))]
     fn write_table(&self, layout: Layout, first: usize, dst: &mut [u8]) -> Answer
         requires frames_sound { (k : ℕ) → k < self.now.count → frame_fault false self.now.file.now (record_at self.now.file.now k) ≡ sound }
         ensures { state_of result dst.new ≡ walked layout (records_of self.now.file.now) 0 (starts first dst.old) }

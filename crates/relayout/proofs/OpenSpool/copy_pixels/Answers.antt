@@ -3,7 +3,7 @@ use Rattle.std.proofs.Common.{◌≡◌, ℕ, ◌+◌, ◌-◌, ◌≤◌, ◌<�
 use Rattle.spool.specs.Find.{frame_pixels}
 use Rattle.relayout.specs.Relayout.{frame_pixels_from}
 use Rattle.relayout.specs.HowCarried.{over}
-use Rattle.relayout.proofs.Frames.{pixels-more, pixels-none}
+use Rattle.relayout.proofs.Frames.{pixels_more, pixels_none}
 use Rattle.relayout.proofs.Copying.{over_none, same_length as kept-length, over-more, put_over}
 use Rattle.relayout.proofs.OpenSpool.copy_pixels.Goals as goal
 
@@ -11,7 +11,7 @@ use Rattle.relayout.proofs.OpenSpool.copy_pixels.Goals as goal
 this_first : (file part : List ℕ) (count k : ℕ) → k < count → part ≡ frame_pixels file k
     → frame_pixels_from file (count - k) k ≡ part ++ frame_pixels_from file (count - (k + 1)) (k + 1)
 this_first file part count k below is =
-    pixels-more file count k below ∙ ap (λ (x : List ℕ). x ++ frame_pixels_from file (count - (k + 1)) (k + 1)) (sym is)
+    pixels_more file count k below ∙ ap (λ (x : List ℕ). x ++ frame_pixels_from file (count - (k + 1)) (k + 1)) (sym is)
 
 -- There is room for a frame's pixels before those of the frames to come.
 room_for : (d part rest more : List ℕ) (at : ℕ) → more ≡ part ++ rest → at + length more ≤ length d → (at + length part ≤ length d) × (at + length part + length rest ≤ length d)
@@ -46,4 +46,4 @@ pub returns : goal.returns
 returns c =
     let spool = c.args.self.now in
     let loop = c.loop-k in
-    sym (ap (over loop.dst loop.at) (pixels-none spool.file.now spool.count loop.k c.loop-k-test.false) ∙ over_none loop.dst loop.at) ∙ loop.invariant.1
+    sym (ap (over loop.dst loop.at) (pixels_none spool.file.now spool.count loop.k c.loop-k-test.false) ∙ over_none loop.dst loop.at) ∙ loop.invariant.1

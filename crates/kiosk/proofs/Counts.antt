@@ -64,8 +64,8 @@ source-counts offered coding to src room h =
     or_holds Countable (call_fault offered wide to (length src) room) _ (λ number. tt)
     (samples_say_lem coding (accepted (length src / pixel_size wide)) (pixels wide (length src) h) 0 (samples_of wide src))
 
-pub convert-counts : (c : Conversion) (src : List ℕ) (room : ℕ) → length src < 2 ^ 63 → Countable (convert_says c src room)
-convert-counts c src room h = source-counts (offers c) (coding_of (source c)) (wide_form (target c)) src room h
+pub convert-counts : (c : Conversion) (src : List ℕ) (room : ℕ) {s : Said} → s ≡ convert_says c src room → length src < 2 ^ 63 → Countable s
+convert-counts c src room e h = subst Countable (sym e) (source-counts (offers c) (coding_of (source c)) (wide_form (target c)) src room h)
 
 pub light_counts : (n : ℕ) (src : List ℕ) (room : ℕ) → length src < 2 ^ 63 → Countable (codes_to_light_says n src room)
 light_counts n src room h = source-counts _ _ false src room h

@@ -13,7 +13,7 @@ use Rattle.picture.specs.declared.Conversion.{Conversion}
 use Rattle.picture.specs.declared.Conversion.TheVariants.{ToSrgb}
 use Rattle.picture.specs.Convert.{convert_says, converted, clipped_in}
 use Rattle.tint.specs.declared.Tint.{Tint}
-use Rattle.tint.specs.Tints.{TintSaid, gives, refuses_at, tint_pixel, tint_says}
+use Rattle.tint.specs.Tints.{TintSaid, gives, refuses_at, refuses, tint_pixel, tint_says}
 use Rattle.stickers.specs.declared.Choice.{Choice}
 use Rattle.spool.specs.Open.{OpenSaid, opens, refuses_file}
 use Rattle.spool.specs.Find.{FindSaid, finds, refuses_frame}
@@ -62,6 +62,7 @@ Countable (refused_at k at) = Unit
 abbrev pub answer_of_one : TintSaid → Said
 answer_of_one (gives p) = accepted 1
 answer_of_one (refuses_at k channel) = refused_at k channel
+answer_of_one (refuses k) = refused k
 
 abbrev pub samples_of_one : Pixel → List ℕ
 samples_of_one p = samples_in (p ∷ [])

@@ -8,5 +8,5 @@ use Rattle.kiosk.proofs.kiosk_code_to_light.Goals as goal
 
 pub answered-requires : goal.answered-requires
 answered-requires c =
-    subst Countable (sym c.code_to_light-answer.ensures.answer)
+    subst Countable (sym c.code_to_light.ensures.answer)
     (light_counts c.args.depth c.args.src.now (length c.args.dst.now) (omega (arith, c.well_formed)))

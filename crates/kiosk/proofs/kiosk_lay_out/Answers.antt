@@ -7,4 +7,4 @@ use Rattle.kiosk.proofs.kiosk_lay_out.Goals as goal
 
 pub answered-requires : goal.answered-requires
 answered-requires c =
-    subst Countable (sym c.lay_out-answer.ensures.0) (layout-counts c.args.records.now (length c.args.dst.now))
+    subst Countable (sym c.lay_out.ensures.0) (layout-counts c.args.records.now (length c.args.dst.now))

@@ -8,5 +8,5 @@ use Rattle.kiosk.proofs.kiosk_printer.Goals as goal
 
 pub answered-requires : goal.answered-requires
 answered-requires c =
-    subst Countable (sym c.simulate-answer.ensures.answer)
+    subst Countable (sym c.simulate.ensures.answer)
     (printer-counts c.args.numbers.now (length c.args.bytes.now) (omega (arith, c.well_formed)))

@@ -5,4 +5,4 @@ use Rattle.kiosk.proofs.kiosk_through_light.Goals as goal
 
 pub answered-requires : goal.answered-requires
 answered-requires c =
-    through_counts c.through_light-answer.ensures (omega (arith, c.well_formed))
+    through_counts c.through_light.ensures (omega (arith, c.well_formed))

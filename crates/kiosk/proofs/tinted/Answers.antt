@@ -4,7 +4,7 @@ use Rattle.tint.specs.Tints.{tint_said}
 use Rattle.kiosk.proofs.Giving.{tints_given}
 use Rattle.kiosk.proofs.tinted.Goals as goal
 
-pub returns-in-Accepted : goal.returns-in-Accepted
-returns-in-Accepted c =
+pub returns-in-Ok : goal.returns-in-Ok
+returns-in-Ok c =
     let s = c.args in
-    tints_given s.tint s.pixel.now s.place.now _ (ap tint_said (sym c.in-Accepted.is) ∙ c.to_pixel.ensures)
+    tints_given s.tint s.pixel.now s.place.now _ (ap tint_said (sym c.in-Ok.is) ∙ c.to_pixel.ensures)

@@ -60,29 +60,31 @@ fn write_lights(depth: Depth, src: &[u8], dst: &mut [i32])
     }
 }
 
-// The light of each sample times FACTOR, as a 16-bit code.
-fn write_multiples<const FACTOR: u16>(src: &[u8], dst: &mut [i32])
+// The light of each sample times FACTOR, as a 16-bit code. Codes and levels are numbers of 32 bits, so that none has
+// to be cut to 16 on the way.
+fn write_multiples<const FACTOR: u32>(src: &[u8], dst: &mut [i32])
     requires room { length dst.old ≡ length src.now / 2 }
     requires codes { (k : ℕ) → FACTOR * get_or (two_by_two src.now) k 0 < 2 ^ 16 }
     ensures { dst.new ≡ map (λ x. light_of_code 16 (FACTOR * x)) (two_by_two src.now) }
 {
     for k in 0..src.len() / 2 {
-        dst[k] = light_of(FACTOR * sample(src, true, k));
+        dst[k] = light_of(FACTOR * sample(src, true, k) as u32);
     }
 }
 
 // The 16-bit code of level 0.
-const OFFSET: u16 = 24576;
+const OFFSET: u32 = 24576;
 
 // The light of a 16-bit code.
-fn light_of(code: u16) -> i32
+fn light_of(code: u32) -> i32
+    requires { code < 2 ^ 16 }
     ensures { result ≡ light_of_code 16 code }
 {
-    with_sign(code < OFFSET, light_between(level_size(code) as u32))
+    with_sign(code < OFFSET, light_between(level_size(code)))
 }
 
 // How far a 16-bit code is from that of level 0.
-fn level_size(code: u16) -> u16
+fn level_size(code: u32) -> u32
     ensures { result ≡ level_size 16 code }
 {
     code.abs_diff(OFFSET)
@@ -131,8 +133,19 @@ fn light_to_codes(search: LevelSearch, src: &[i32], dst: &mut [u8]) -> Answer
     Ok(pixels)
 }
 
-// The two bytes of each code.
+// The two bytes of each code. Each arm becomes a loop of its own, in which the compiler knows the depth's numbers.
 fn write_codes(search: LevelSearch, src: &[i32], dst: &mut [u8])
+    requires { length dst.old ≡ 2 * length src.now }
+    ensures { dst.new ≡ light_to_codes (bits search.depth) src.now }
+{
+    match search.depth {
+        Depth::Ten => write_each(search, src, dst),
+        Depth::Twelve => write_each(search, src, dst),
+        Depth::Sixteen => unreachable!(),
+    }
+}
+
+fn write_each(search: LevelSearch, src: &[i32], dst: &mut [u8])
     requires { length dst.old ≡ 2 * length src.now }
     ensures { dst.new ≡ light_to_codes (bits search.depth) src.now }
 {
@@ -160,7 +173,7 @@ fn light_at(depth: Depth, code: u16) -> Result<i32, Refusal>
     if greatest_of(depth) < code {
         return Err(Refusal::SampleTooGreat);
     }
-    Ok(light_of(128 / step_of(depth) * code))
+    Ok(light_of((128 / step_of(depth) * code) as u32))
 }
 
 // The code of a light, or why it has none.

@@ -13,7 +13,7 @@ use transfer::thresholds::thresholds_of;
 
 #[derive(Clone, Copy)]
 pub struct LevelSearch {
-    depth: Depth,
+    pub depth: Depth,
     starts: &'static [u16; 1268],
     thresholds: &'static [u32],
     ghost has_codes: { offers_codes (bits depth) ≡ true },

@@ -1,4 +1,4 @@
--- `linear::write_codes` meets its contract: a turn writes the two bytes of one more code.
+-- `linear::write_each` meets its contract: a turn writes the two bytes of one more code.
 use Prim.Native.Nat.{suc, ◌+◌, ◌*◌}
 use mathlib.Core.List.{[], ◌∷◌, ◌++◌}
 use mathlib.Core.Path.{◌≡◌, ap}
@@ -11,7 +11,7 @@ use Rattle.numbers.proofs.Writing.{written_more, take_two}
 use Rattle.esrgb.specs.Depths.{bits}
 use Rattle.transfer.specs.Level.{code_of_light}
 use Rattle.linear.specs.Operations.{light_to_codes}
-use Rattle.linear.proofs.write_codes.Goals as goal
+use Rattle.linear.proofs.write_each.Goals as goal
 
 pub loop-k-preserved : goal.loop-k-preserved
 loop-k-preserved c =

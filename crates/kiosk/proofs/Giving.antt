@@ -20,13 +20,14 @@ use Rattle.samples.specs.declared.Pixel.{Pixel}
 use Rattle.tint.specs.declared.Tint.{Tint}
 use Rattle.tint.specs.declared.Tint.TheVariants.{Code}
 use Rattle.tint.specs.Tints as tint
-use Rattle.tint.specs.Tints.{TintSaid, refused_said, tint_said, tint_pixel, tint_says}
+use Rattle.tint.specs.Tints.{TintSaid, refuses_at, refused_said, tint_said, tint_pixel, tint_says}
 use Rattle.tint.proofs.Meaning.{pixel_given, code_given}
 use Rattle.stickers.specs.declared.Choice.{Choice}
 use Rattle.stickers.specs.Choices.{choice_of}
+use Rattle.stickers.specs.Stickers as sticker
 use Rattle.stickers.specs.Stickers.{request_says, picture_of, chosen_said, chooses, stickers_says, stickers}
-use Rattle.stickers.proofs.Answers.{accepted-says, fault_says}
-use Rattle.kiosk.specs.Interface.{answer_of, place_of, Gives, Converts, clips_after, answer_of_one, samples_of_one, Tints, four_of, sums_of}
+use Rattle.stickers.proofs.Answers.{accepted-says, refused_says, refused_at_says, fault_says}
+use Rattle.kiosk.specs.Interface.{minus, answer_of, place_of, Gives, Converts, clips_after, answer_of_one, samples_of_one, Tints, four_of, sums_of}
 
 pub gives : {A : Type 0} (new dst : List A) (place : ℕ) {s says : Said} {r : ℤ} {dst' : List A} {place' : ℕ}
     → s ≡ says → dst' ≡ leaves says new dst → r ≡ answer_of s → place' ≡ place_of s place → Gives says new r dst dst' place place'
@@ -77,6 +78,10 @@ module _ (t : Tint) (dst : List ℕ) (place : ℕ) where
       (ap samples_of_one (pixel_given t p e) ∙ ap (λ (s : TintSaid). leaves (answer_of_one s) (samples_of_one (tint_pixel t)) dst) e)
       refl refl
 
+  pub tints_refused : (k channel : ℕ) {r : ℤ} → refuses_at k channel ≡ tint_says t → r ≡ minus k → Tints t r dst dst place channel
+  tints_refused k channel e is =
+      gives _ dst place (ap answer_of_one e) (ap (λ (s : TintSaid). leaves (answer_of_one s) (samples_of_one (tint_pixel t)) dst) e) is refl
+
   at_channel : (number : ℕ) (channel : Option ℕ) → at_place number channel ≡ answer_of_one (refused_said number channel)
   at_channel number None = refl
   at_channel number (Some channel) = refl
@@ -119,6 +124,16 @@ module _ (src tints : List ℕ) (budget : ℕ) (dst : List ℕ) (place : ℕ) (f
   sticks_given given e bytes answer =
       let told = accepted-says src tints budget (length dst) given e in
       rw told.1 (sticks told.0 bytes answer refl)
+
+  pub sticks_refused : (k : ℕ) {r : ℤ} {dst' : List ℕ}
+      → sticker.refuses k ≡ stickers_says src tints budget (length dst) → dst' ≡ leaves request (stickers src tints budget) dst → r ≡ minus k
+      → Sticks r dst' place four sums
+  sticks_refused k e bytes answer = sticks (refused_says src tints budget (length dst) k e) bytes answer refl
+
+  pub sticks_refused_at : (k at : ℕ) {r : ℤ} {dst' : List ℕ}
+      → sticker.refuses_at k at ≡ stickers_says src tints budget (length dst) → dst' ≡ leaves request (stickers src tints budget) dst → r ≡ minus k
+      → Sticks r dst' at four sums
+  sticks_refused_at k at e bytes answer = sticks (refused_at_says src tints budget (length dst) k at e) bytes answer refl
 
   pub sticks_faulted : (f : Fault) {r : ℤ} {dst' : List ℕ} {place' : ℕ}
       → chosen_said (Err f) ≡ stickers_says src tints budget (length dst) → dst' ≡ leaves request (stickers src tints budget) dst

@@ -28,7 +28,7 @@ pub fn nearest_whole(x: f64, below: u32, above: u32) -> i64
     }
 }
 
-// Where a number halfway between two whole numbers goes.
+// Where a number halfway between two whole numbers goes. It is a name and no closure, so that a contract can say it.
 #[derive(Clone, Copy)]
 enum Ties {
     Up,

@@ -60,8 +60,8 @@ fn write_lights(depth: Depth, src: &[u8], dst: &mut [i32])
     }
 }
 
-// The light of each sample times FACTOR, as a 16-bit code. Codes and levels are numbers of 32 bits, so that none has
-// to be cut to 16 on the way.
+// The light of each sample times FACTOR, as a 16-bit code. The loop ends with the samples, so that the compiler leaves
+// out the test of `sample`; and codes are numbers of 32 bits, so that it need not cut each to 16.
 fn write_multiples<const FACTOR: u32>(src: &[u8], dst: &mut [i32])
     requires room { length dst.old ≡ length src.now / 2 }
     requires codes { (k : ℕ) → FACTOR * get_or (two_by_two src.now) k 0 < 2 ^ 16 }
@@ -145,6 +145,7 @@ fn write_codes(search: LevelSearch, src: &[i32], dst: &mut [u8])
     }
 }
 
+// The same in one loop.
 fn write_each(search: LevelSearch, src: &[i32], dst: &mut [u8])
     requires { length dst.old ≡ 2 * length src.now }
     ensures { dst.new ≡ light_to_codes (bits search.depth) src.now }

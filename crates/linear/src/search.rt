@@ -1,7 +1,6 @@
 // The search for the code of a light: where it starts, and the least light of each level. It is made for a depth
 // that light has codes at, and promises the code of every light.
-ghost use Rattle.std.specs.Prelude.{◌≡◌, true, false, min, ◌-◌, MatchResult};
-ghost use Rattle.refusal.specs.declared.Refusal.TheVariants.{DepthNotOffered};
+ghost use Rattle.std.specs.Prelude.{◌≡◌, true, min, ◌-◌};
 ghost use Rattle.esrgb.specs.Depths.{bits, step, scale};
 ghost use Rattle.transfer.specs.Level.{offers_codes, level_of_light, code_of_light};
 ghost use Rattle.transfer.specs.HowTabled.{levels, start_of, ThresholdTable, StartTable};
@@ -24,7 +23,9 @@ pub struct LevelSearch {
 impl TryFrom<u32> for LevelSearch {
     type Error = Refusal;
 
-    ghost try_from_gives = { λ n made. MatchResult made (λ search. (offers_codes n ≡ true) × (n ≡ bits search.depth)) (λ refusal. (offers_codes n ≡ false) × (refusal ≡ DepthNotOffered)) };
+    ghost use Rattle.linear.specs.Searches.{Searches};
+
+    ghost try_from_gives = { Searches };
 
     fn try_from(bits: u32) -> Result<LevelSearch, Refusal> {
         let depth = Depth::try_from(bits)?;

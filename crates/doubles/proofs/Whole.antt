@@ -114,11 +114,11 @@ module _ (a b n : ℕ) (B : 0 < b) (lo : n * b ≤ a) (hi : a < n * b + b) where
       sym (div-eq_of_lt-le (2 * b) (omega arith) (omega arith))
 
 -- ---- a double above 0 and below the limit
-record Inside (top : ℕ) (x : Float) : Type 0 where
-  m : ℕ
-  e : ℤ
-  is : x ≡ fin false m e
-  less : m * up e < top * down e
+pub record Inside (top : ℕ) (x : Float) : Type 0 where
+  pub m : ℕ
+  pub e : ℤ
+  pub is : x ≡ fin false m e
+  pub less : m * up e < top * down e
 
 inf_above : (y : Float) (a c : ℕ) → HasValue y false a c → lt (inf false) y ≡ true → ⊥
 unfolding lt
@@ -126,7 +126,7 @@ inf_above nan a c v h = absurd v
 inf_above (inf s) a c v h = absurd v
 inf_above (fin t n d) a c v h = false≢true h
 
-inside : (top : ℕ) (x : Float) → Small top → lt (of_bits binary64 0) x ≡ true → lt x (of_int binary64 (pos top)) ≡ true → Inside top x
+pub inside : (top : ℕ) (x : Float) → Small top → lt (of_bits binary64 0) x ≡ true → lt x (of_int binary64 (pos top)) ≡ true → Inside top x
 inside top nan small p q = absurd (unfold lt in false≢true q)
 inside top (inf true) small p q = absurd (unfold lt of_bits in false≢true p)
 inside top (inf false) small p q = absurd (inf_above (of_int binary64 (pos top)) top 1 (whole_value top small) q)
@@ -146,10 +146,7 @@ below_range top m e small h =
     let k : top * down e ≤ 2 ^ 64 * down e = mul-le-mul_right (down e) (omega arith) in
     lt→ltb (m * up e * 1) (1 * 2 ^ 64 * down e) (omega arith)
 
-module _ (top : ℕ) (x : Float) (small : Small top) (above : lt (of_bits binary64 0) x ≡ true) (under : lt x (of_int binary64 (pos top)) ≡ true) where
-  i : Inside top x
-  i = inside top x small above under
-
+module _ (top : ℕ) (x : Float) (small : Small top) (i : Inside top x) where
   pub in_range : T (lt (fin true 1 (pos 0)) x) × T (lt x (fin false 1 (pos 64)))
   in_range = (rw i.is (above_minus_one i.m i.e), rw i.is (below_range top i.m i.e small i.less))
 
@@ -203,6 +200,24 @@ module _ (top : ℕ) (x : Float) (small : Small top) (above : lt (of_bits binary
     down_rounds ties is t h =
         unclipped ties Down is (cond t (n + 1) n) (either t).1
         (down_nearest a b n (down_pos i.e) low_end high_end t (sym (above_value i.m i.e (2 * n + 1) 2 (lit< tt) (halfway n) half_value) ∙ rw i.is at h))
+
+-- The same of a double by the two tests that it has passed.
+module _ (top : ℕ) (x : Float) (small : Small top) (above : lt (of_bits binary64 0) x ≡ true) (under : lt x (of_int binary64 (pos top)) ≡ true) where
+  i : Inside top x
+  i = inside top x small above under
+
+  pub tested_range : T (lt (fin true 1 (pos 0)) x) × T (lt x (fin false 1 (pos 64)))
+  tested_range = in_range top x small i
+
+  module _ (n : ℕ) (is-n : n ≡ to_unsigned 64 x) where
+    pub tested_less : n < top
+    tested_less = n_less top x small i n is-n
+
+    pub tested_up : (ties : Ties) → ties ≡ Up → (t : Bool) → lt x (halfway n) ≡ t → cond t n (n + 1) ≡ nearest_size ties top x
+    tested_up = up_rounds top x small i n is-n
+
+    pub tested_down : (ties : Ties) → ties ≡ Down → (t : Bool) → lt (halfway n) x ≡ t → cond t (n + 1) n ≡ nearest_size ties top x
+    tested_down = down_rounds top x small i n is-n
 
 -- ---- at the limit or above it, and not above 0
 
@@ -262,6 +277,21 @@ module _ (low high : ℕ) where
       let z : nearest_by Down (m * up e) (down e) ≡ 0 = none Down (m * up e) (down e) (down_pos e) (omega arith) in
       ap (λ (n : ℕ). neg_ℤ (pos n)) (sym (the_least z))
 
+-- ---- a finite double lies between the infinities
+pub below_infinity : (x : Float) → lt x (div binary64 (of_bits binary64 0x3ff0_0000_0000_0000) (of_bits binary64 0)) ≡ true
+    → lt (neg (div binary64 (of_bits binary64 0x3ff0_0000_0000_0000) (of_bits binary64 0))) x ≡ finite x
+unfolding lt neg div of_bits
+below_infinity nan h = refl
+below_infinity (inf true) h = refl
+below_infinity (inf false) h = absurd (false≢true h)
+below_infinity (fin s m e) h = refl
+
+pub not_below_infinity : (x : Float) → lt x (div binary64 (of_bits binary64 0x3ff0_0000_0000_0000) (of_bits binary64 0)) ≡ false → false ≡ finite x
+unfolding lt div of_bits
+not_below_infinity nan h = refl
+not_below_infinity (inf s) h = refl
+not_below_infinity (fin s m e) h = absurd (true≢false h)
+
 -- ---- std's word for a finite double, and the logic's
 pub finite_is : (x : Float) → float_is_finite x ≡ finite x
 unfolding float_is_finite
@@ -291,18 +321,3 @@ whole_natural high (inf true) = (tt, omega arith)
 whole_natural high (inf false) = (tt, omega arith)
 whole_natural high (fin true m e) = rw (zero-min (nearest_down (m * up e) (down e))) (tt, omega arith)
 whole_natural high (fin false m e) = (tt, omega arith)
-
--- ---- a finite double lies between the infinities
-pub below_infinity : (x : Float) → lt x (div binary64 (of_bits binary64 0x3ff0_0000_0000_0000) (of_bits binary64 0)) ≡ true
-    → lt (neg (div binary64 (of_bits binary64 0x3ff0_0000_0000_0000) (of_bits binary64 0))) x ≡ finite x
-unfolding lt neg div of_bits
-below_infinity nan h = refl
-below_infinity (inf true) h = refl
-below_infinity (inf false) h = absurd (false≢true h)
-below_infinity (fin s m e) h = refl
-
-pub not_below_infinity : (x : Float) → lt x (div binary64 (of_bits binary64 0x3ff0_0000_0000_0000) (of_bits binary64 0)) ≡ false → false ≡ finite x
-unfolding lt div of_bits
-not_below_infinity nan h = refl
-not_below_infinity (inf s) h = refl
-not_below_infinity (fin s m e) h = absurd (true≢false h)

@@ -7,15 +7,14 @@ use mathlib.Core.List.{List, [], ◌∷◌, ◌++◌, append-nil, zip_with}
 use native.Mathlib.Omega.{arith}
 use native.Mathlib.Nat.{min-eq_left, min-eq_right, min_comm}
 use native.Mathlib.Numerals.{add-one}
+use borrow.Author.Tests.{ltb-true, ltb-false}
 use lib.IntN.{ℤ, pos, negsuc, nat_abs, ◌+ℤ◌}
 use lib.ListN.{length, get_or, take, drop, set, drop_of_length-le}
 use lib.Seq.{take_all, drop-cons, append_snoc, drop-set-lt}
-use borrow.Author.Tests.{ltb-true, ltb-false}
 use lib.Signed.{mag, lt_z, nat_abs-le}
 use mir.Syntax.{w32, w64}
 use mir.Val.{SFits, to_z, of_z}
 use mir.ValLaws.{to_z-of_z}
-use Rattle.std.specs.Int.{saturate_signed}
 use Rattle.numbers.specs.Bytes.{little_endian, low_bytes, AllBytes}
 use Rattle.numbers.proofs.Bytes.{two_held}
 use Rattle.numbers.proofs.Sign.{sum-size}
@@ -28,6 +27,7 @@ use Rattle.transfer.specs.Steady.{most_moved}
 use Rattle.transfer.proofs.Steady.{steady, moved-fits}
 use Rattle.linear.specs.Moved.{clipped, moved, moved_codes}
 use Rattle.linear.proofs.Sign.{read, read_fits}
+use Rattle.std.specs.Int.{saturate_signed}
 
 -- ---- clipped
 pub clip_none : (z : ℤ) → mag z ≤ greatest_light → clipped z ≡ z
@@ -55,7 +55,7 @@ within : (z : ℤ) → lt_z z (negsuc greatest_light) ≡ false → lt_z (pos gr
 within (pos k) low high = ltb-false _ _ high
 within (negsuc k) low high = ltb-false _ _ low
 
--- ---- as the code computes it, in 64 bits
+-- ---- as 64 bits compute it
 wide : (z : ℤ) → SFits w32 z → to_z w64 (of_z w64 (to_z w32 (of_z w32 z))) ≡ z
 wide z f = to_z-of_z w64 _ (read_fits z f) ∙ read z f
 

@@ -12,7 +12,6 @@ use Rattle.refusal.specs.Answers.{Verdict, sound, Said, accepted, refused, refus
 use Rattle.refusal.proofs.Verdicts.{or_stands}
 use Rattle.samples.specs.declared.Coding.TheVariants.{Codes}
 use Rattle.samples.specs.Samples.{two_by_two}
-use Rattle.samples.specs.Faults.{samples_say}
 use Rattle.samples.proofs.Judging.{accepted-within, accepted-count}
 use Rattle.samples.proofs.Order.{says_samples, source_samples}
 use Rattle.esrgb.specs.Depths.{offered, greatest}
@@ -60,52 +59,46 @@ module _ (n : ℕ) (codes : List ℕ) (moves light : List ℤ) (back : List ℕ)
         untouched s never answer-is light'
         (e ∙ ap (λ a. leaves a (codes_to_light n codes) light) (sym h) ∙ refusal_leaves s (codes_to_light n codes) light never)
 
-  -- Accepted: both calls write, and the second says what the first does.
-  module _
-      (fits : fault ≡ sound) (pixels : ℕ) (told : accepted pixels ≡ codes_to_light_says n codes (length light)) (byte : AllBytes codes)
-      (made light' : List ℤ) (back' : List ℕ) (s : Said)
-      (there : made ≡ leaves (codes_to_light_says n codes (length light)) (codes_to_light n codes) light)
-      (between : light' ≡ zip_with moved made moves) (long : length light' ≡ length light)
-      (says : s ≡ light_to_codes_says n (length light') (length back))
-      (again : back' ≡ leaves (light_to_codes_says n (length light') (length back)) (light_to_codes n light') back) where
-    lengths : Lengths n (length codes) (length moves) (length light) (length back)
-    lengths = lengths_fit n (length codes) (length moves) (length light) (length back) fits
+    -- Accepted: both calls write.
+    module _
+        (pixels : ℕ) (told : s ≡ accepted pixels) (byte : AllBytes codes) (made light' : List ℤ) (back' : List ℕ)
+        (there : made ≡ leaves (codes_to_light_says n codes (length light)) (codes_to_light n codes) light)
+        (between : light' ≡ zip_with moved made moves) (long : length light' ≡ length light)
+        (again : back' ≡ leaves (light_to_codes_says n (length light') (length back)) (light_to_codes n light') back) where
+      lengths : Lengths n (length codes) (length moves) (length light) (length back)
+      lengths = lengths_fit n (length codes) (length moves) (length light) (length back) fits
 
-    samples : samples_say (Codes (greatest n) false) (accepted (length codes / 6)) 0 (two_by_two codes) ≡ accepted pixels
-    samples = source_samples (offered n) (Codes (greatest n) false) false codes (length light) pixels (sym told)
+      light_is : light' ≡ moved_light n codes moves
+      light_is =
+          between
+          ∙ ap (λ (l : List ℤ). zip_with moved l moves) (there ∙ ap (λ a. leaves a (codes_to_light n codes) light) (sym h ∙ told))
 
-    count : length codes / 6 ≡ pixels
-    count = accepted-count (greatest n) (length codes / 6) pixels 0 (two_by_two codes) samples
+      accepts : light_to_codes_says n (length light') (length back) ≡ accepted (length light' / 3)
+      accepts =
+          rw lengths.offers
+          (says_samples false true (length light') (length back) (accepted (length light' / 3)) (omega (arith, lengths.exact)) (omega (arith, lengths.exact, lengths.back_fits)))
 
-    accepts : light_to_codes_says n (length light') (length back) ≡ accepted (length light' / 3)
-    accepts =
-        rw lengths.offers
-        (says_samples false true (length light') (length back) (accepted (length light' / 3)) (omega (arith, lengths.exact)) (omega (arith, lengths.exact, lengths.back_fits)))
+      back_is : back' ≡ moved_codes n codes moves
+      back_is = again ∙ ap (λ a. leaves a (light_to_codes n light') back) accepts ∙ ap (light_to_codes n) light_is
 
-    -- Both calls count the same pixels.
-    as_many : length light' / 3 ≡ pixels
-    as_many = let c = count in omega (arith, lengths.exact)
+      sound-codes : (k : ℕ) → get_or (two_by_two codes) k 0 ≤ greatest n
+      sound-codes =
+          accepted-within (greatest n) (length codes / 6) pixels 0 (two_by_two codes)
+          (source_samples (offered n) (Codes (greatest n) false) false codes (length light) pixels (sym h ∙ told))
 
-    answer_is : s ≡ accepted pixels
-    answer_is = says ∙ accepts ∙ ap accepted as_many
+      -- The second call counts the same pixels.
+      pub counts_alike : light_to_codes_says n (length light') (length back) ≡ accepted pixels
+      counts_alike =
+          let count = accepted-count (greatest n) (length codes / 6) pixels 0 (two_by_two codes) (source_samples (offered n) (Codes (greatest n) false) false codes (length light) pixels (sym h ∙ told)) in
+          let alike : length light' / 3 ≡ pixels = omega (arith, lengths.exact) in
+          accepts ∙ ap accepted alike
 
-    light_is : light' ≡ moved_light n codes moves
-    light_is =
-        between
-        ∙ ap (λ (l : List ℤ). zip_with moved l moves) (there ∙ ap (λ a. leaves a (codes_to_light n codes) light) (sym told))
-
-    back_is : back' ≡ moved_codes n codes moves
-    back_is = again ∙ ap (λ a. leaves a (light_to_codes n light') back) accepts ∙ ap (light_to_codes n) light_is
-
-    sound-codes : (k : ℕ) → get_or (two_by_two codes) k 0 ≤ greatest n
-    sound-codes = accepted-within (greatest n) (length codes / 6) pixels 0 (two_by_two codes) samples
-
-    pub comes_back : Through n codes moves light light' back back' s
-    comes_back =
-        record {
-          says = answer_is ∙ told ∙ ap (λ v. refuses_or v (codes_to_light_says n codes (length light))) (sym fits);
-          numbers = light_is ∙ ap (λ a. leaves a (moved_light n codes moves) light) (sym answer_is);
-          bytes = back_is ∙ ap (λ a. leaves a (moved_codes n codes moves) back) (sym answer_is);
-          steady =
-              λ _ _ small. back_is ∙ same_codes n lengths.offers codes moves (omega (arith, lengths.exact)) (omega (arith, lengths)) byte sound-codes small;
-        }
+      pub comes_back : Through n codes moves light light' back back' s
+      comes_back =
+          record {
+            says = answer-is;
+            numbers = light_is ∙ ap (λ a. leaves a (moved_light n codes moves) light) (sym told);
+            bytes = back_is ∙ ap (λ a. leaves a (moved_codes n codes moves) back) (sym told);
+            steady =
+                λ _ _ small. back_is ∙ same_codes n lengths.offers codes moves (omega (arith, lengths.exact)) (omega (arith, lengths)) byte sound-codes small;
+          }

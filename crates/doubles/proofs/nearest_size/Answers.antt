@@ -1,6 +1,6 @@
 -- `doubles::nearest_size` meets its contract.
 use Rattle.std.proofs.Common.{true, false, arith, rules}
-use Rattle.doubles.proofs.Whole.{in_range, n_less, up_rounds, down_rounds, at_top, at_zero}
+use Rattle.doubles.proofs.Whole.{tested_range, tested_less, tested_up, tested_down, at_top, at_zero}
 use Rattle.doubles.proofs.nearest_size.Goals as goal
 
 pub returns-then-not-x : goal.returns-then-not-x
@@ -11,33 +11,33 @@ returns-then-not-x-top c = at_top _ _ _ (search rules) c.if-not-x.false c.if-not
 
 pub truncating_f64_to_u64-whole-requires : goal.truncating_f64_to_u64-whole-requires
 truncating_f64_to_u64-whole-requires c =
-    let p = in_range _ _ (search rules) c.if-not-x.false c.if-not-x-top.false in
+    let p = tested_range _ _ (search rules) c.if-not-x.false c.if-not-x-top.false in
     record { lower_bound = p.0; upper_bound = p.1 }
 
 pub overflow_cast-whole : goal.overflow_cast-whole
 overflow_cast-whole c =
-    omega (arith, n_less _ _ (search rules) c.if-not-x.false c.if-not-x-top.false _ c.truncating_f64_to_u64-whole.ensures)
+    omega (arith, tested_less _ _ (search rules) c.if-not-x.false c.if-not-x-top.false _ c.truncating_f64_to_u64-whole.ensures)
 
 pub overflow_add-result : goal.overflow_add-result
 overflow_add-result c =
-    omega (arith, n_less _ _ (search rules) c.if-not-x.false c.if-not-x-top.false _ c.truncating_f64_to_u64-whole.ensures)
+    omega (arith, tested_less _ _ (search rules) c.if-not-x.false c.if-not-x-top.false _ c.truncating_f64_to_u64-whole.ensures)
 
 pub overflow_add-result-then-halfway-x : goal.overflow_add-result-then-halfway-x
 overflow_add-result-then-halfway-x c =
-    omega (arith, n_less _ _ (search rules) c.if-not-x.false c.if-not-x-top.false _ c.truncating_f64_to_u64-whole.ensures)
+    omega (arith, tested_less _ _ (search rules) c.if-not-x.false c.if-not-x-top.false _ c.truncating_f64_to_u64-whole.ensures)
 
 pub returns-then-x-halfway : goal.returns-then-x-halfway
 returns-then-x-halfway c =
-    up_rounds _ _ (search rules) c.if-not-x.false c.if-not-x-top.false _ c.truncating_f64_to_u64-whole.ensures _ c.in-Up.is true c.if-x-halfway.true
+    tested_up _ _ (search rules) c.if-not-x.false c.if-not-x-top.false _ c.truncating_f64_to_u64-whole.ensures _ c.in-Up.is true c.if-x-halfway.true
 
 pub returns-else-x-halfway : goal.returns-else-x-halfway
 returns-else-x-halfway c =
-    up_rounds _ _ (search rules) c.if-not-x.false c.if-not-x-top.false _ c.truncating_f64_to_u64-whole.ensures _ c.in-Up.is false c.if-x-halfway.false
+    tested_up _ _ (search rules) c.if-not-x.false c.if-not-x-top.false _ c.truncating_f64_to_u64-whole.ensures _ c.in-Up.is false c.if-x-halfway.false
 
 pub returns-then-halfway-x : goal.returns-then-halfway-x
 returns-then-halfway-x c =
-    down_rounds _ _ (search rules) c.if-not-x.false c.if-not-x-top.false _ c.truncating_f64_to_u64-whole.ensures _ c.in-Down.is true c.if-halfway-x.true
+    tested_down _ _ (search rules) c.if-not-x.false c.if-not-x-top.false _ c.truncating_f64_to_u64-whole.ensures _ c.in-Down.is true c.if-halfway-x.true
 
 pub returns-else-halfway-x : goal.returns-else-halfway-x
 returns-else-halfway-x c =
-    down_rounds _ _ (search rules) c.if-not-x.false c.if-not-x-top.false _ c.truncating_f64_to_u64-whole.ensures _ c.in-Down.is false c.if-halfway-x.false
+    tested_down _ _ (search rules) c.if-not-x.false c.if-not-x-top.false _ c.truncating_f64_to_u64-whole.ensures _ c.in-Down.is false c.if-halfway-x.false

@@ -18,8 +18,9 @@ use Rattle.printer.specs.declared.Arrival.{Arrival}
 use Rattle.printer.specs.Arrivals.{kiosk_count}
 use Rattle.printer.specs.Turns.{joined, came, behind, idle, next_kiosk, Printer, printer, after_print, after_turn, new_printer, printer_at, waiting_in, turn_byte, turn_bytes}
 use Rattle.printer.specs.Fairness.{arrived, made, waiting_after, Waits, Fair}
+use Rattle.printer.specs.HowRun.{Servable}
 use Rattle.printer.proofs.Arriving.{set_here, set_elsewhere}
-use Rattle.printer.proofs.Rounds.{ahead, ServableIfAny, next_servable, next_nearer}
+use Rattle.printer.proofs.Rounds.{ahead, next_servable, next_nearer}
 
 -- ---- prints that come
 -- The prints that come for kiosk k in turn t.
@@ -98,7 +99,7 @@ module _ (w : List ℕ) (first b : ℕ) where
   served_kiosk h = print_holds (λ p. p ≡ one-made) (λ z. absurd (omega arith)) (λ z. refl)
 
   -- It is one print less for its kiosk, and none for the others.
-  one_less : (k : ℕ) → k < kiosk_count → length w ≡ kiosk_count → ServableIfAny w b
+  one_less : (k : ℕ) → k < kiosk_count → length w ≡ kiosk_count → Servable w b
       → get_or (after_print w first b).waiting k 0 + cond (eqb k b) 1 0 ≡ get_or w k 0
   one_less k h l s =
       print_holds (λ p. get_or p.waiting k 0 + cond (eqb k b) 1 0 ≡ get_or w k 0)
@@ -108,7 +109,7 @@ module _ (w : List ℕ) (first b : ℕ) where
       took : (this : Bool) → eqb k b ≡ this → (b ≡ idle → ⊥) → get_or one-made.waiting k 0 + cond this 1 0 ≡ get_or w k 0
       took true e z =
           let q = eqb-true k b e in
-          omega (arith, set_here w b k (get_or w b 0 - 1) (omega arith) (sym q), ap (λ (x : ℕ). get_or w x 0) q, (s z).waits)
+          omega (arith, set_here w b k (get_or w b 0 - 1) (omega arith) (sym q), ap (λ (x : ℕ). get_or w x 0) q, s.waits z)
       took false e z = omega (arith, set_elsewhere w b k (get_or w b 0 - 1) (λ q. eqb-false k b e (sym q)))
 
 -- ---- the printer as each turn finds it
@@ -136,7 +137,7 @@ module _ (list : List Arrival) where
   waiting-more : (t k : ℕ) → k < kiosk_count → get_or (waiting_in list t) k 0 ≡ waiting_after list t k + arriving list t k
   waiting-more t k h = came_adds t k list (printer_at list t).waiting (omega (arith, (always_sound list t).whole))
 
-  turn_servable : (t : ℕ) → ServableIfAny (waiting_in list t) (turn_byte list t)
+  turn_servable : (t : ℕ) → Servable (waiting_in list t) (turn_byte list t)
   unfolding turn_byte
   turn_servable t = next_servable (waiting_in list t) kiosk_count (printer_at list t).first (always_sound list t).first
 

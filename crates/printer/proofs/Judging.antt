@@ -1,13 +1,12 @@
 -- A list of arrivals, one after another: what is said of it, and what is known of one that is accepted.
 -- Assumes nothing.
-use Prim.Native.Nat.{ℕ, zero, suc, ◌-◌, ◌+◌, ◌*◌, ◌/◌, ◌≤◌, ◌<◌}
+use Prim.Native.Nat.{ℕ, zero, suc, ◌+◌, ◌*◌, ◌/◌, ◌≤◌, ◌<◌}
 use mathlib.Core.Path.{◌≡◌, refl, sym, ap, ◌∙◌}
 use mathlib.Core.Bool.{Bool, true, false, cond}
 use mathlib.Core.List.{List, [], ◌∷◌}
 use native.Mathlib.Omega.{arith}
 use lib.Dec.{ltb, leb}
-use lib.ListN.{length, get_or, take, drop, length-take, length-drop}
-use Rattle.std.proofs.lemmas.List.{get_or-take, get_or-drop}
+use lib.ListN.{length, get_or, drop, length-drop}
 use borrow.Author.Tests.{ltb-true, leb-true}
 use Rattle.numbers.proofs.Booleans.{and_true}
 use Rattle.std.specs.Simd.{first_chunks}
@@ -65,14 +64,8 @@ pub record Stands (list : List Arrival) (place : ℕ) (a : Arrival) : Type 0 whe
   pub within : place < length list
   pub here : drop place list ≡ a ∷ drop (place + 1) list
 
--- It is read as the k-th of those from number `start` on.
-pub read_from :
-    (rows : List (List ℕ)) (start k place : ℕ) (a : Arrival) → place ≡ start + k → k < length (take (length rows - start) (drop start rows))
-    → a ≡ arrival_of (get_or (take (length rows - start) (drop start rows)) k []) → Stands (listed rows) place a
-read_from rows start k place a e h read =
-    let within : k < length rows - start = omega (arith, simp (length-take, length-drop) at h) in
-    let same = get_or-take (length rows - start) (drop start rows) k [] within ∙ get_or-drop start rows k [] in
-    rw e (record { within = omega (arith, length-listed rows); here = read_here rows (start + k) a (omega arith) (read ∙ ap arrival_of same) })
+pub stands_at : (rows : List (List ℕ)) (i : ℕ) (a : Arrival) → i < length rows → a ≡ arrival_of (get_or rows i []) → Stands (listed rows) i a
+stands_at rows i a h read = record { within = omega (arith, length-listed rows); here = read_here rows i a h read }
 
 -- ---- what is said of them
 module _ (done : Said) (list rest : List Arrival) (i before : ℕ) (a : Arrival) (here : list ≡ a ∷ rest) where

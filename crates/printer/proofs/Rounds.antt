@@ -32,20 +32,20 @@ module _ (w : List ℕ) where
   unfolding next_from
   next_none left k e = ap (λ (n : ℕ). next_from w n k) e
 
-  -- Whoever is next has a print waiting, if it is not none.
-  abbrev pub ServableIfAny : ℕ → Type 0
-  ServableIfAny b = (b ≡ idle → ⊥) → Servable w b
-
-  servable_by : (k b : ℕ) (none : Bool) → eqb (get_or w k 0) 0 ≡ none → k < kiosk_count → ServableIfAny b → ServableIfAny (cond none b k)
+  -- Whoever is next has a print waiting.
+  servable_by : (k b : ℕ) (none : Bool) → eqb (get_or w k 0) 0 ≡ none → k < kiosk_count → Servable w b → Servable w (cond none b k)
   servable_by k b true e h s = s
   servable_by k b false e h s =
-      λ n.
-      let waits = eqb-false (get_or w k 0) 0 e in
-      record { there = h; waits = omega arith }
+      let n = eqb-false (get_or w k 0) 0 e in
+      record { there = λ z. h; waits = λ z. positive (get_or w k 0) n }
+    where
+      positive : (x : ℕ) → (x ≡ 0 → ⊥) → 0 < x
+      positive zero n = absurd (n refl)
+      positive (suc x) n = omega arith
 
-  pub next_servable : (left k : ℕ) → k < kiosk_count → ServableIfAny (next_from w left k)
+  pub next_servable : (left k : ℕ) → k < kiosk_count → Servable w (next_from w left k)
   unfolding next_from
-  next_servable zero k h = λ n. absurd (n refl)
+  next_servable zero k h = record { there = λ z. absurd (z refl); waits = λ z. absurd (z refl) }
   next_servable (suc left) k h = servable_by k (next_from w left (behind k)) (eqb (get_or w k 0) 0) refl h (next_servable left (behind k) (omega arith))
 
   -- Where kiosk x waits and another is next, x is nearer behind that one.

@@ -4,7 +4,7 @@
 use Rattle.std.specs.Prelude.{ℕ, ◌*◌, ◌≤◌, ◌<◌, ◌≡◌, List, [], ◌∷◌, length, get_or, drop, map}
 use Rattle.printer.specs.declared.Arrival.{Arrival}
 use Rattle.printer.specs.Arrivals.{kiosk_count, print_limit, arrival_limit, arrival}
-use Rattle.printer.specs.Turns.{came}
+use Rattle.printer.specs.Turns.{idle, came}
 
 -- The arrival of three numbers, and those of a list of threes.
 abbrev pub arrival_of : List ℕ → Arrival
@@ -33,6 +33,11 @@ pub record Ready (list : List Arrival) (t : ℕ) (waiting : List ℕ) (next : �
   pub few : (k : ℕ) → get_or waiting k 0 ≤ print_limit * next
 
 -- Kiosk k has a print waiting.
-pub record Servable (waiting : List ℕ) (k : ℕ) : Type 0 where
+pub record HasPrint (waiting : List ℕ) (k : ℕ) : Type 0 where
   pub there : k < kiosk_count
   pub waits : 0 < get_or waiting k 0
+
+-- The same of what a turn writes: kiosk k has a print waiting, or is none.
+pub record Servable (waiting : List ℕ) (k : ℕ) : Type 0 where
+  pub there : (k ≡ idle → ⊥) → k < kiosk_count
+  pub waits : (k ≡ idle → ⊥) → 0 < get_or waiting k 0

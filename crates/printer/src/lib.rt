@@ -8,7 +8,7 @@ ghost use Rattle.refusal.specs.Answers.{said, said_by, accepted, leaves};
 ghost use Rattle.printer.specs.Arrivals.{arrivals, kiosk_count, keeps_limits, simulation_says};
 ghost use Rattle.printer.specs.Turns.{came, idle, next_kiosk, printer, after_print, after_turn, turn_bytes};
 ghost use Rattle.printer.specs.Fairness.{Fair};
-ghost use Rattle.printer.specs.HowRun.{arrival_of, listed, Ready, Servable};
+ghost use Rattle.printer.specs.HowRun.{arrival_of, listed, Ready, HasPrint};
 
 use refusal::{Answer, Fault, Refusal};
 
@@ -137,20 +137,21 @@ impl Printer {
         ensures first { self.new.first ≡ self.old.first }
         ensures ready { Ready (listed rows.now) (turn + 1) self.new.waiting self.new.next }
     {
-        for row in &rows[self.next..] {
-            let arrival = Arrival::from(*row);
+        // By number: over the rows from there on, a turn takes a quarter longer where all kiosks are busy.
+        for next in self.next..rows.len() {
+            let arrival = Arrival::from(rows[next]);
             if arrival.turn as usize != turn {
                 return;
             }
             self.waiting[arrival.kiosk as usize] += arrival.prints;
-            self.next += 1;
+            self.next = next + 1;
         }
     }
 
     // The first kiosk with prints waiting, going round.
     fn next_kiosk(&self) -> Option<u8>
         ensures next { unwrap_or result idle ≡ next_kiosk self.now.waiting self.now.first }
-        ensures servable { IfSome result (λ k. Servable self.now.waiting k) }
+        ensures waits { IfSome result (λ k. HasPrint self.now.waiting k) }
     {
         for ahead in 0..KIOSKS {
             let k = (self.first + ahead) % KIOSKS;
@@ -163,7 +164,7 @@ impl Printer {
 
     // One print is made for a kiosk.
     fn serve(&mut self, kiosk: u8)
-        requires { Servable self.old.waiting kiosk }
+        requires { HasPrint self.old.waiting kiosk }
         ensures left { printer self.new.waiting self.new.first ≡ after_print self.old.waiting self.old.first kiosk }
         ensures next { self.new.next ≡ self.old.next }
     {

@@ -21,4 +21,4 @@ loop-ahead-preserved c =
 
 pub returns : goal.returns
 returns c =
-    record { next = sym (c.loop-ahead.invariant ∙ next_none _ (8 - c.loop-ahead.ahead) _ (omega arith)); servable = tt }
+    record { next = sym (c.loop-ahead.invariant ∙ next_none _ (8 - c.loop-ahead.ahead) _ (omega arith)); waits = tt }

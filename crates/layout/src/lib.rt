@@ -23,7 +23,8 @@ use refusal::{Answer, Refusal};
 const LENGTH_LIMIT: usize = 4294967295;
 
 // The end of a frame's pixels that start at `end`. It no longer grows once it is past the limit, so that
-// no list of records overflows it.
+// no list of records overflows it, and what `visit` answers past the limit is this end, and not the
+// greatest number.
 fn grow(end: usize, frame: FrameRecord) -> usize
     ensures { result ≡ grown end (pixel_bytes frame) }
 {
@@ -58,7 +59,8 @@ fn write_record(dst: &mut [u8], layout: Layout, place: usize, end: usize, frame:
     dst[at..at + size].copy_from_slice(&bytes[..size]);
 }
 
-// The same check, and the record written if it is sound.
+// The same check, and the record written if it is sound. Both passes check, so that neither has to
+// know that the other came before it.
 pub fn visit(dst: &mut [u8], layout: Layout, end: usize, place: usize, frame: FrameRecord) -> Answer
     ensures { state_of result dst.new ≡ visited layout (starts end dst.old) place frame }
 {
@@ -96,7 +98,8 @@ fn begin(layout: Layout, count: usize, shop: u16, pixels: usize, dst: &mut [u8])
 }
 
 // Between the pass that checks and the pass that writes: the refusals in the rule's order, and the
-// header. `checked` is what the first pass answers; the second starts where this one's answer says.
+// header. `checked` is what the first pass answers, a refusal too, since too many frames are refused
+// before it; the second pass starts where this answer says.
 #[tactic(auto, using(crate::proofs::Begun::begun_stopped), unfolding(crate::specs::HowLaidOut::readied))]
 pub fn ready(layout: Layout, count: usize, shop: u16, checked: Answer, dst: &mut [u8]) -> Answer
     ensures { state_of result dst.new ≡ readied layout count shop (said checked) dst.old }

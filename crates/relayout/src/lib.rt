@@ -32,7 +32,7 @@ struct OpenSpool<'a> {
 }
 
 impl<'a> OpenSpool<'a> {
-    // The record of a frame whose rows have no gaps, or what is at fault with it.
+    // The record of a frame whose rows have no gaps, or what is at fault with it. One match maps both.
     fn frame(&self, k: usize) -> Result<FrameRecord, Fault>
         requires { k < self.now.count }
         ensures { IsFrame self.now.file.now k result }

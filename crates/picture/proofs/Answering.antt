@@ -5,18 +5,12 @@ use mathlib.Core.Path.{◌≡◌, refl, ap, ◌∙◌}
 use mathlib.Core.Bool.{true, false}
 use mathlib.Core.List.{List}
 use lib.ListN.{length}
-use Rattle.std.specs.Prelude.{Result, Ok, Err}
-use Rattle.std.specs.Result.{IsErrAnd}
-use Rattle.refusal.specs.declared.Refusal.{Refusal}
-use Rattle.refusal.specs.declared.Refusal.TheVariants.{DepthNotOffered}
-use Rattle.refusal.specs.declared.Fault.{Fault}
-use Rattle.refusal.specs.Answers.{Said, accepted, refused, refused_at, nowhere, fault_said, leaves}
+use Rattle.refusal.specs.Answers.{Said, accepted, refused, refused_at, leaves}
 use Rattle.samples.specs.Faults.{source_says}
 use Rattle.samples.proofs.Order.{source_exact}
 use Rattle.picture.specs.declared.Conversion.{Conversion}
 use Rattle.picture.specs.declared.Plan.{Plan}
-use Rattle.picture.specs.declared.Converted.{Converted}
-use Rattle.picture.specs.Convert.{offers, convert_says, converted, convert_bytes, clipped_in, convert_clips, converted_said, clips_of}
+use Rattle.picture.specs.Convert.{offers, convert_says, converted, convert_bytes, clipped_in, convert_clips}
 use Rattle.picture.specs.HowConverted.{writes_wide, made, counted, Plans, plan_says}
 
 -- What is left does not depend on what would be written, unless it is accepted.
@@ -24,13 +18,6 @@ same_left : {A : Type 0} (s : Said) (new new' old : A) → ((n : ℕ) → s ≡ 
 same_left (accepted n) new new' old h = h n refl
 same_left (refused k) new new' old h = refl
 same_left (refused_at k at) new new' old h = refl
-
--- A depth that is not offered is refused by its number, and no pixel is counted.
-pub depth_refused :
-    (r : Result Converted Fault) {k : Refusal} → IsErrAnd r (λ f. f ≡ nowhere k) → k ≡ DepthNotOffered
-    → (converted_said r ≡ refused 9) × (clips_of r ≡ 0)
-depth_refused (Ok c) h e = absurd h
-depth_refused (Err f) h e = (ap fault_said (h ∙ ap nowhere e), refl)
 
 module _ (c : Conversion) (src dst : List ℕ) where
   pub not_offered : offers c ≡ false → convert_says c src (length dst) ≡ refused 9

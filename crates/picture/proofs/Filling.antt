@@ -3,12 +3,12 @@
 use Prim.Native.Nat.{ℕ, suc, ◌+◌, ◌*◌, ◌/◌, ◌≤◌, ◌<◌}
 use mathlib.Core.Path.{◌≡◌, refl, sym, ap, ◌∙◌}
 use mathlib.Core.Bool.{Bool, true, false}
-use mathlib.Core.List.{List, [], ◌∷◌, ◌++◌, append_assoc, append-nil, map}
+use mathlib.Core.List.{List, [], ◌∷◌, ◌++◌, map}
 use native.Mathlib.Omega.{arith}
 use lib.ListN.{length, get_or, take, drop}
 use Rattle.numbers.proofs.Writing.{Written, written_more, written_all}
 use Rattle.samples.specs.declared.Pixel.{Pixel}
-use Rattle.samples.specs.Samples.{place, pixel_size, sample_count, samples_of, sample_bytes, bytes_of, pixel, no_pixel, read, write}
+use Rattle.samples.specs.Samples.{place, pixel_size, sample_count, samples_of, sample_bytes, bytes_of, no_pixel, read, write}
 use Rattle.samples.specs.Faults.{Exact}
 use Rattle.samples.proofs.Reading.{length_two, length_samples}
 use Rattle.samples.proofs.Buffers.{length-read}
@@ -34,10 +34,10 @@ room-pixels :
     (from to : Bool) (src dst : List ℕ) → Exact from to (length src) (length dst) → length dst ≡ place to (3 * (length src / pixel_size from))
 room-pixels from to src dst e = e.room-is ∙ pixels_end to (length src / pixel_size from)
 
-pub pixel-within :
+pub pixel_within :
     (from to : Bool) (src dst after : List ℕ) (i : ℕ) → Exact from to (length src) (length dst) → length after ≡ length dst
     → i < length src / pixel_size from → place to (3 * (i + 1)) ≤ length after
-pixel-within from to src dst after i e kept h =
+pixel_within from to src dst after i e kept h =
     omega (arith, room-pixels from to src dst e, place_mono to {k = 3 * (i + 1)} {n = 3 * (length src / pixel_size from)} (omega arith))
 
 -- ---- samples, each by f
@@ -49,12 +49,13 @@ none_written true f xs dst = refl
 none_written false f xs dst = refl
 
 pub one_more :
-    (wide : Bool) (f : ℕ → ℕ) (xs dst after : List ℕ) (k x : ℕ) → k < length xs → x ≡ f (get_or xs k 0)
-    → take (place wide (k + 1)) after ≡ take (place wide k) dst ++ sample_bytes wide x
-    → Written (bytes_by wide f) xs dst (place wide k) k → Written (bytes_by wide f) xs after (place wide (k + 1)) (k + 1)
-one_more wide f xs dst after k x h e put =
-    written_more (bytes_by wide f) xs 0 k (place wide k) (place wide (k + 1)) dst after (sample_bytes wide x) h put
-    (ap (λ y. sample_bytes wide y ++ bytes_by wide f (drop (suc k) xs)) (sym e))
+    (from to : Bool) (f : ℕ → ℕ) (src dst after : List ℕ) (k x : ℕ) → k < sample_count from (length src) → x ≡ f (get_or (samples_of from src) k 0)
+    → take (place to (k + 1)) after ≡ take (place to k) dst ++ sample_bytes to x
+    → Written (bytes_by to f) (samples_of from src) dst (place to k) k → Written (bytes_by to f) (samples_of from src) after (place to (k + 1)) (k + 1)
+one_more from to f src dst after k x h e put =
+    let xs = samples_of from src in
+    written_more (bytes_by to f) xs 0 k (place to k) (place to (k + 1)) dst after (sample_bytes to x) (rw (length_samples from src) h) put
+    (ap (λ y. sample_bytes to y ++ bytes_by to f (drop (suc k) xs)) (sym e))
 
 -- behind the last sample, all is written
 pub samples_done :
@@ -78,13 +79,16 @@ write-more : (wide : Bool) (p : Pixel) (ps : List Pixel) → write wide (p ∷ p
 write-more true p ps = refl
 write-more false p ps = refl
 
-pub pixel-more :
-    (wide : Bool) (f : Pixel → Pixel) (ps : List Pixel) (dst after : List ℕ) (i : ℕ) (p : Pixel) → i < length ps → p ≡ f (get_or ps i no_pixel)
-    → take (place wide (3 * (i + 1))) after ≡ take (place wide (3 * i)) dst ++ write wide (p ∷ [])
-    → Written (pixels_by wide f) ps dst (place wide (3 * i)) i → Written (pixels_by wide f) ps after (place wide (3 * (i + 1))) (i + 1)
-pixel-more wide f ps dst after i p h e put =
-    written_more (pixels_by wide f) ps no_pixel i (place wide (3 * i)) (place wide (3 * (i + 1))) dst after (write wide (p ∷ [])) h put
-    (write-more wide (f (get_or ps i no_pixel)) (map f (drop (suc i) ps)) ∙ ap (λ q. write wide (q ∷ []) ++ pixels_by wide f (drop (suc i) ps)) (sym e))
+pub pixel_more :
+    (from to : Bool) (f : Pixel → Pixel) (src dst after : List ℕ) (i : ℕ) (p : Pixel)
+    → i < length src / pixel_size from → p ≡ f (get_or (read from src) i no_pixel)
+    → take (place to (3 * (i + 1))) after ≡ take (place to (3 * i)) dst ++ write to (p ∷ [])
+    → Written (pixels_by to f) (read from src) dst (place to (3 * i)) i
+    → Written (pixels_by to f) (read from src) after (place to (3 * (i + 1))) (i + 1)
+pixel_more from to f src dst after i p h e put =
+    let ps = read from src in
+    written_more (pixels_by to f) ps no_pixel i (place to (3 * i)) (place to (3 * (i + 1))) dst after (write to (p ∷ [])) (rw (length-read from src) h) put
+    (write-more to (f (get_or ps i no_pixel)) (map f (drop (suc i) ps)) ∙ ap (λ q. write to (q ∷ []) ++ pixels_by to f (drop (suc i) ps)) (sym e))
 
 pub pixels_done :
     (from to : Bool) (f : Pixel → Pixel) (src dst after : List ℕ) (i : ℕ) → Exact from to (length src) (length dst) → length after ≡ length dst
@@ -93,15 +97,3 @@ pub pixels_done :
 pixels_done from to f src dst after i e kept h =
     written_all (pixels_by to f) (read from src) after (place to (3 * i)) i refl (omega (arith, length-read from src))
     (omega (arith, room-pixels from to src dst e, place_mono to {k = 3 * (length src / pixel_size from)} {n = 3 * i} (omega arith)))
-
--- three samples put one after another are a pixel
-pub three_put :
-    (wide : Bool) (d₀ d₁ d₂ d₃ : List ℕ) (i a b c : ℕ)
-    → take (place wide (3 * i + 1)) d₁ ≡ take (place wide (3 * i)) d₀ ++ sample_bytes wide a
-    → take (place wide (3 * i + 1 + 1)) d₂ ≡ take (place wide (3 * i + 1)) d₁ ++ sample_bytes wide b
-    → take (place wide (3 * i + 2 + 1)) d₃ ≡ take (place wide (3 * i + 2)) d₂ ++ sample_bytes wide c
-    → take (place wide (3 * (i + 1))) d₃ ≡ take (place wide (3 * i)) d₀ ++ write wide (pixel a b c ∷ [])
-three_put wide d₀ d₁ d₂ d₃ i a b c p q r =
-    let e₂ : 3 * i + 1 + 1 ≡ 3 * i + 2 = omega arith in
-    let e₃ : 3 * (i + 1) ≡ 3 * i + 2 + 1 = omega arith in
-    rw e₃ (r ∙ ap (λ l. l ++ sample_bytes wide c) (rw e₂ at q ∙ ap (λ l. l ++ sample_bytes wide b) p) ∙ simp (append_assoc, append-nil))

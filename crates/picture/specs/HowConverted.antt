@@ -21,7 +21,7 @@ use Rattle.picture.specs.declared.Work.{Work}
 use Rattle.picture.specs.declared.Work.TheVariants.{Widen, Narrow, Change, Pixels}
 use Rattle.picture.specs.declared.Plan.{Plan}
 use Rattle.picture.specs.Forms.{coding_of, wide_form}
-use Rattle.picture.specs.Convert.{source, target, pixel_of, offers, converted, clipped, clipped_in}
+use Rattle.picture.specs.Convert.{source, target, offers, converted, clipped, clipped_in}
 
 -- A row for each rule that takes a whole pixel at a time: the conversion that it does, at a depth of n bits.
 abbrev pub done_by : PixelRule → ℕ → Conversion
@@ -31,10 +31,6 @@ done_by rule.ToEsycc n = ToEsycc n
 done_by rule.FromEsycc n = FromEsycc n
 done_by rule.ToSycc n = ToSycc n
 done_by rule.FromSycc n = FromSycc n
-
--- So what it does to a pixel.
-abbrev pub pixel_applied : PixelRule → ℕ → Pixel → Pixel
-pixel_applied rule n = pixel_of (done_by rule n)
 
 -- Whatever a call gives for a pixel, f gives it too.
 abbrev pub Gives : (Pixel → Pixel → Type 0) → (Pixel → Pixel) → Type 0

@@ -51,6 +51,7 @@ fn put(dst: &mut [u8], wide: bool, k: usize, x: u16)
 
 // One text for every conversion that works sample by sample. Each type of rule has a loop of its own, and each
 // call says whether the samples are wide, in the source and in the destination.
+#[tactic(auto, using(crate::proofs::Filling::one_more, crate::proofs::Filling::samples_done))]
 fn fill_samples<R: SampleRule>(rule: R, wide_in: bool, wide_out: bool, src: &[u8], dst: &mut [u8])
     requires { Exact wide_in wide_out (length src.now) (length dst.old) }
     ensures { dst.new ≡ bytes_of wide_out (map (R.applied rule) (samples_of wide_in src.now)) }
@@ -139,6 +140,7 @@ fn count_clipped(gamut: Gamut, src: &[u8]) -> u32
 }
 
 // A block, and how many of its pixels are clipped.
+#[tactic(auto, using(crate::proofs::Narrowing::none_counted))]
 fn narrow_block(depth: Depth, src: &[u8], dst: &mut [u8]) -> usize
     requires room { Exact true false (length src.now) (length dst.old) }
     requires few { length (read true src.now) ≤ block_size }
@@ -195,6 +197,7 @@ fn put_pixel(dst: &mut [u8], wide: bool, i: usize, p: Pixel)
 // The conversions that need a whole pixel at a time. It goes by value from the bytes read to the bytes written.
 // Each closure has a loop of its own: of calls that differ in a constant only, in the arms of one `match`, the
 // compiler would make one loop. It ends at the quotient that `pixel_at` tests, so that the test is left out.
+#[tactic(auto, using(crate::proofs::Filling::pixel_within, crate::proofs::Filling::pixel_more, crate::proofs::Filling::pixels_done))]
 fn fill_pixels<F: Fn(Pixel) -> Pixel>(
     convert: F,
     wide_in: bool,
@@ -234,6 +237,7 @@ fn fill_at<F: Fn(Depth, Pixel) -> Pixel>(
 
 // The conversion that a rule does, at a depth. Luma and chroma would be too long for the compiler to make three
 // loops of.
+#[tactic(auto, unfolding(crate::specs::Convert::converted))]
 fn fill_by_rule(rule: PixelRule, depth: Depth, src: &[u8], dst: &mut [u8])
     requires { Exact (wide_form (source (done_by rule (bits depth)))) (wide_form (target (done_by rule (bits depth)))) (length src.now) (length dst.old) }
     ensures { dst.new ≡ converted (done_by rule (bits depth)) src.now }
@@ -414,6 +418,7 @@ pub struct Converted {
 }
 
 // A conversion whose depths are offered: judged first, and then written.
+#[tactic(auto, using(samples::proofs::Order::source_exact))]
 fn run(plan: Plan, src: &[u8], dst: &mut [u8]) -> Result<Converted, Fault>
     requires { wide_coding plan.coding ≡ reads_wide plan.work }
     ensures answer { converted_said result ≡ plan_says plan src.now (length dst.old) }
@@ -427,6 +432,7 @@ fn run(plan: Plan, src: &[u8], dst: &mut [u8]) -> Result<Converted, Fault>
 
 // Converts the picture src into dst, or refuses and leaves dst as it was. Every sample is judged before a
 // byte is written.
+#[tactic(auto, using(crate::proofs::Answering::not_offered, crate::proofs::Answering::planned_says, crate::proofs::Answering::planned_leaves, crate::proofs::Answering::planned_clips))]
 pub fn convert(conversion: Conversion, src: &[u8], dst: &mut [u8]) -> Result<Converted, Fault>
     ensures answer { converted_said result ≡ convert_says conversion src.now (length dst.old) }
     ensures bytes { dst.new ≡ convert_bytes conversion src.now dst.old }

@@ -30,7 +30,7 @@ loop-k-preserved c =
     let a = c.args in
     let xs = samples_of true a.src.now in
     let inside : c.loop-k.k < length xs = omega (arith, c.sample_count-k-end.ensures, length_samples true a.src.now) in (
-      one_more false (to_eight a.cut) xs c.loop-k.dst c.put.new.dst c.loop-k.k _ inside (rw (c.apply.ensures, c.sample-x.ensures)) c.put.ensures c.loop-k.invariant.0,
+      one_more true false (to_eight a.cut) a.src.now c.loop-k.dst c.put.new.dst c.loop-k.k _ (omega (arith, c.sample_count-k-end.ensures)) (rw (c.apply.ensures, c.sample-x.ensures)) c.put.ensures c.loop-k.invariant.0,
       c.loop-k.invariant.1 ∙ sample_more a.gamut xs c.loop-k.k _ inside
           ∙ rw (to_z-of_z w16 c.raised-top.result (record { sfits = c.raised-top.type_inv }), c.raised-top.ensures, c.above_lowest.ensures, c.sample-x.ensures, c.loop-k.top-is),
     )

@@ -52,6 +52,7 @@ unused_turn list t before w first e f = ap (after_print w first) f ∙ ap (λ (x
 pub record Running (list : List Arrival) (old out waiting : List ℕ) (first next t : ℕ) : Type 0 where
   pub printer : printer waiting first ≡ printer_at list t
   pub ready : Ready list t waiting next
+  pub round : first < kiosk_count
   pub turn : t ≤ length old
   pub whole : length out ≡ length old
   pub written : out ≡ turn_bytes list t ++ drop t old
@@ -65,6 +66,7 @@ running_first numbers out list n is h =
     record {
       printer = refl;
       ready = record { listed = rw is (omega (arith, a.few)); within = omega arith; due = rw is a.due; past = λ u w l. refl; few = λ k. omega (arith, no_prints kiosk_count k) };
+      round = omega arith;
       turn = omega arith;
       whole = refl;
       written = refl;
@@ -73,14 +75,15 @@ running_first numbers out list n is h =
 module _ (list : List Arrival) (old out waiting : List ℕ) (first next t : ℕ) (r : Running list old out waiting first next t) where
   pub running_more :
       (left : List ℕ) (b after then : ℕ) → t < length old → b ≡ next_kiosk (came t list waiting) first
-      → printer left after ≡ after_turn list t (printer waiting first) → Ready list (t + 1) left then
+      → printer left after ≡ after_turn list t (printer waiting first) → Ready list (t + 1) left then → after < kiosk_count
       → Running list old (set out t b) left after then (t + 1)
   unfolding printer_at turn_bytes turn_byte
-  running_more left b after then h e f ready =
+  running_more left b after then h e f ready round =
       let byte : b ≡ turn_byte list t = e ∙ ap (λ (p : Printer). next_kiosk (came t list p.waiting) p.first) r.printer in
       record {
         printer = rw (add-one t) (f ∙ ap (after_turn list t) r.printer);
         ready = ready;
+        round = round;
         turn = omega arith;
         whole = length-set out t b ∙ r.whole;
         written =

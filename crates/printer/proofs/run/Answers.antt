@@ -17,7 +17,7 @@ loop-turn-init c =
 pub loop-turn-preserved : goal.loop-turn-preserved
 loop-turn-preserved c =
     let turn = c.take_turn.ensures in
-    running_more _ _ _ _ _ _ _ c.loop-turn.invariant _ _ _ _ (omega arith) (c.unwrap_or.ensures ∙ turn.byte) turn.left turn.ready
+    running_more _ _ _ _ _ _ _ c.loop-turn.invariant _ _ _ _ (omega arith) (c.unwrap_or.ensures ∙ turn.byte) turn.left turn.ready c.take_turn.new.self.in_round
 
 pub returns : goal.returns
 returns c =

@@ -1,7 +1,7 @@
 -- What a call of codes through moved light promises, by how far it comes.
 -- Assumes nothing.
 use Prim.Native.Nat.{ℕ, ◌/◌, ◌≤◌}
-use mathlib.Core.Path.{◌≡◌, refl, sym, ap, ◌∙◌}
+use mathlib.Core.Path.{◌≡◌, refl, sym, ap, ◌∙◌, subst}
 use mathlib.Core.Bool.{false, true}
 use mathlib.Core.List.{List, zip_with}
 use native.Mathlib.Omega.{arith}
@@ -86,13 +86,6 @@ module _ (n : ℕ) (codes : List ℕ) (moves light : List ℤ) (back : List ℕ)
           accepted-within (greatest n) (length codes / 6) pixels 0 (two_by_two codes)
           (source_samples (offered n) (Codes (greatest n) false) false codes (length light) pixels (sym h ∙ told))
 
-      -- The second call counts the same pixels.
-      pub counts_alike : light_to_codes_says n (length light') (length back) ≡ accepted pixels
-      counts_alike =
-          let count = accepted-count (greatest n) (length codes / 6) pixels 0 (two_by_two codes) (source_samples (offered n) (Codes (greatest n) false) false codes (length light) pixels (sym h ∙ told)) in
-          let alike : length light' / 3 ≡ pixels = omega (arith, lengths.exact) in
-          accepts ∙ ap accepted alike
-
       pub comes_back : Through n codes moves light light' back back' s
       comes_back =
           record {
@@ -102,3 +95,17 @@ module _ (n : ℕ) (codes : List ℕ) (moves light : List ℤ) (back : List ℕ)
             steady =
                 λ _ _ small. back_is ∙ same_codes n lengths.offers codes moves (omega (arith, lengths.exact)) (omega (arith, lengths)) byte sound-codes small;
           }
+
+      -- The second call counts the same pixels, so its answer serves as well.
+      count : length codes / 6 ≡ pixels
+      count =
+          accepted-count (greatest n) (length codes / 6) pixels 0 (two_by_two codes)
+          (source_samples (offered n) (Codes (greatest n) false) false codes (length light) pixels (sym h ∙ told))
+
+      alike : length light' / 3 ≡ pixels
+      alike = let c = count in omega (arith, lengths.exact)
+
+      pub comes_back_told :
+          (t : Said) → t ≡ light_to_codes_says n (length light') (length back) → Through n codes moves light light' back back' t
+      comes_back_told t u =
+          subst (λ (answer : Said). Through n codes moves light light' back back' answer) (told ∙ sym (u ∙ accepts ∙ ap accepted alike)) comes_back

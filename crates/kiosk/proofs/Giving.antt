@@ -12,32 +12,26 @@ use mir.ValLaws.{to_z-of_z}
 use Rattle.refusal.specs.declared.Fault.{Fault}
 use Rattle.refusal.specs.Refusals.{number_of}
 use Rattle.refusal.specs.Answers.{Said, accepted, refused, refused_at, at_place, fault_said, leaves}
-use Rattle.picture.specs.declared.Conversion.{Conversion}
 use Rattle.picture.specs.declared.Conversion.TheVariants.{ToSrgb}
-use Rattle.picture.specs.Convert.{convert_says, convert_bytes, clipped_in, convert_clips}
+use Rattle.picture.specs.Convert.{convert_says, clipped_in, convert_clips}
 use Rattle.linear.specs.Moved.{moved_light, moved_codes, through_says, Through}
 use Rattle.samples.specs.declared.Pixel.{Pixel}
 use Rattle.tint.specs.declared.Tint.{Tint}
 use Rattle.tint.specs.declared.Tint.TheVariants.{Code}
 use Rattle.tint.specs.Tints as tint
-use Rattle.tint.specs.Tints.{TintSaid, refuses_at, refused_said, tint_said, tint_pixel, tint_says}
+use Rattle.tint.specs.Tints.{TintSaid, refuses_at, tint_pixel, tint_says}
 use Rattle.tint.proofs.Meaning.{pixel_given, code_given}
 use Rattle.stickers.specs.declared.Choice.{Choice}
 use Rattle.stickers.specs.Choices.{choice_of}
 use Rattle.stickers.specs.Stickers as sticker
 use Rattle.stickers.specs.Stickers.{request_says, picture_of, chosen_said, chooses, stickers_says, stickers}
 use Rattle.stickers.proofs.Answers.{accepted-says, refused_says, refused_at_says, fault_says}
-use Rattle.kiosk.specs.Interface.{minus, answer_of, place_of, Gives, Converts, clips_after, answer_of_one, samples_of_one, Tints, four_of, sums_of}
+use Rattle.kiosk.specs.Interface.{minus, answer_of, place_of, Gives, clips_after, answer_of_one, samples_of_one, Tints, four_of, sums_of}
 
 pub gives : {A : Type 0} (new dst : List A) (place : ℕ) {s says : Said} {r : ℤ} {dst' : List A} {place' : ℕ}
     → s ≡ says → dst' ≡ leaves says new dst → r ≡ answer_of s → place' ≡ place_of s place → Gives says new r dst dst' place place'
 gives new dst place e content answer at =
     record { answer = answer ∙ ap answer_of e; content = content; at = at ∙ ap (λ (x : Said). place_of x place) e }
-
-pub converts : (c : Conversion) (src dst : List ℕ) (place : ℕ) {s : Said} {r : ℤ} {dst' : List ℕ} {place' : ℕ}
-    → s ≡ convert_says c src (length dst) → dst' ≡ convert_bytes c src dst → r ≡ answer_of s → place' ≡ place_of s place
-    → Converts c src r dst dst' place place'
-converts c src dst place e content answer at = gives _ dst place e content answer at
 
 -- A fault leaves what was there.
 left_by : {A : Type 0} (number : ℕ) (place : Option ℕ) (new old : A) → leaves (at_place number place) new old ≡ old
@@ -81,17 +75,6 @@ module _ (t : Tint) (dst : List ℕ) (place : ℕ) where
   pub tints_refused : (k channel : ℕ) {r : ℤ} → refuses_at k channel ≡ tint_says t → r ≡ minus k → Tints t r dst dst place channel
   tints_refused k channel e is =
       gives _ dst place (ap answer_of_one e) (ap (λ (s : TintSaid). leaves (answer_of_one s) (samples_of_one (tint_pixel t)) dst) e) is refl
-
-  at_channel : (number : ℕ) (channel : Option ℕ) → at_place number channel ≡ answer_of_one (refused_said number channel)
-  at_channel number None = refl
-  at_channel number (Some channel) = refl
-
-  pub tints_faulted : (f : Fault) {r : ℤ} {place' : ℕ}
-      → tint_said (Err f) ≡ tint_says t → r ≡ answer_of (fault_said f) → place' ≡ place_of (fault_said f) place → Tints t r dst dst place place'
-  tints_faulted f e answer at =
-      let says : fault_said f ≡ answer_of_one (tint_says t) = at_channel (number_of f.refusal) f.place ∙ ap answer_of_one e in
-      let stays = sym (left_by (number_of f.refusal) f.place (samples_of_one (tint_pixel t)) dst) in
-      gives _ dst place says (stays ∙ ap (λ (s : Said). leaves s (samples_of_one (tint_pixel t)) dst) says) answer at
 
 -- Of 8-bit values the pixel is always given.
 pub tints_code : (red green blue : ℕ) {r : ℤ} {dst dst' : List ℕ} {place place' : ℕ}

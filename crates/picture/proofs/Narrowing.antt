@@ -48,16 +48,18 @@ sample_more gamut xs k top h =
     (sym (or_assoc (ltb gamut.span top) (outside gamut (get_or xs k 0)) (some_outside gamut (drop (suc k) xs))))
 
 -- ---- pixels
-pub none_counted : (gamut : Gamut) (xs : List ℕ) → some_outside gamut xs ≡ false → how_many (pixel_outside gamut) (pixels_of xs) ≡ 0
+pub none-counted : (gamut : Gamut) (xs : List ℕ) → some_outside gamut xs ≡ false → how_many (pixel_outside gamut) (pixels_of xs) ≡ 0
 unfolding how_many some_outside
-none_counted gamut [] h = refl
-none_counted gamut (a ∷ []) h = refl
-none_counted gamut (a ∷ b ∷ []) h = refl
-none_counted gamut (a ∷ b ∷ c ∷ rest) h =
+none-counted gamut [] h = refl
+none-counted gamut (a ∷ []) h = refl
+none-counted gamut (a ∷ b ∷ []) h = refl
+none-counted gamut (a ∷ b ∷ c ∷ rest) h =
     let first = or_false (outside gamut a) _ h in
     let second = or_false (outside gamut b) _ first.1 in
     let third = or_false (outside gamut c) _ second.1 in
-    rw (first.0, second.0, third.0) (omega (arith, none_counted gamut rest third.1))
+    rw (first.0, second.0, third.0) (omega (arith, none-counted gamut rest third.1))
+
+pub ruleset counts_none = none-counted
 
 -- Of samples of 16 bits, the definition says the same of a pixel.
 module _ (n : ℕ) (s : Scale n) where

@@ -140,7 +140,7 @@ fn count_clipped(gamut: Gamut, src: &[u8]) -> u32
 }
 
 // A block, and how many of its pixels are clipped.
-#[tactic(auto, using(crate::proofs::Narrowing::none_counted))]
+#[tactic(auto, using(crate::proofs::Narrowing::counts_none))]
 fn narrow_block(depth: Depth, src: &[u8], dst: &mut [u8]) -> usize
     requires room { Exact true false (length src.now) (length dst.old) }
     requires few { length (read true src.now) ≤ block_size }

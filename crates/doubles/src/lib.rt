@@ -18,6 +18,7 @@ pub fn is_finite(x: f64) -> bool
 
 // The whole number nearest to x, ties upward, clipped to -below..above. Ties upward of a number below 0 are
 // ties downward of its size.
+#[tactic(auto, using(crate::proofs::Whole::of_negative, crate::proofs::Whole::of_other, numbers::proofs::Sign::opposite_is))]
 pub fn nearest_whole(x: f64, below: u32, above: u32) -> i64
     ensures { result ≡ nearest_whole below above x }
 {
@@ -37,6 +38,7 @@ enum Ties {
 
 // The same of a size, clipped to 0..top: 0 for what is not above 0, also for what is not a number. Below top, a
 // whole number and a half is exactly a double.
+#[tactic(auto, using(crate::proofs::Whole::at_zero, crate::proofs::Whole::at_top, crate::proofs::Whole::tested_less))]
 fn nearest_size(x: f64, top: u32, ties: Ties) -> u32
     ensures { result ≡ nearest_size ties top x }
 {

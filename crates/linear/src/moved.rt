@@ -48,7 +48,8 @@ fn has_codes(depth: u32) -> bool
     matches!(depth, 10 | 12)
 }
 
-// To each number of light its move. A sum stops at the ends of 32 bits.
+// To each number of light its move. A sum stops at the ends of 32 bits. Moves are taken by index, because an invariant
+// has no name for `light` while a zip lends it.
 fn add_moves(moves: &[i32], light: &mut [i32])
     requires { length moves.now ≡ length light.old }
     ensures { light.new ≡ zip_with moved light.old moves.now }

@@ -1,30 +1,12 @@
--- `doubles::nearest_size` meets its contract.
-use Rattle.std.proofs.Common.{true, false, arith, rules}
-use Rattle.doubles.proofs.Whole.{tested_range, tested_less, tested_up, tested_down, at_top, at_zero}
+-- `doubles::nearest_size` meets its contract: what the truncation asks, and on which side of the halfway point the double lies.
+use Rattle.std.proofs.Common.{true, false, rules}
+use Rattle.doubles.proofs.Whole.{tested_range, tested_up, tested_down}
 use Rattle.doubles.proofs.nearest_size.Goals as goal
-
-pub returns-then-not-x : goal.returns-then-not-x
-returns-then-not-x c = at_zero _ _ _ c.if-not-x.true
-
-pub returns-then-not-x-top : goal.returns-then-not-x-top
-returns-then-not-x-top c = at_top _ _ _ (search rules) c.if-not-x.false c.if-not-x-top.true
 
 pub truncating_f64_to_u64-whole-requires : goal.truncating_f64_to_u64-whole-requires
 truncating_f64_to_u64-whole-requires c =
     let p = tested_range _ _ (search rules) c.if-not-x.false c.if-not-x-top.false in
     record { lower_bound = p.0; upper_bound = p.1 }
-
-pub overflow_cast-whole : goal.overflow_cast-whole
-overflow_cast-whole c =
-    omega (arith, tested_less _ _ (search rules) c.if-not-x.false c.if-not-x-top.false _ c.truncating_f64_to_u64-whole.ensures)
-
-pub overflow_add-result : goal.overflow_add-result
-overflow_add-result c =
-    omega (arith, tested_less _ _ (search rules) c.if-not-x.false c.if-not-x-top.false _ c.truncating_f64_to_u64-whole.ensures)
-
-pub overflow_add-result-then-halfway-x : goal.overflow_add-result-then-halfway-x
-overflow_add-result-then-halfway-x c =
-    omega (arith, tested_less _ _ (search rules) c.if-not-x.false c.if-not-x-top.false _ c.truncating_f64_to_u64-whole.ensures)
 
 pub returns-then-x-halfway : goal.returns-then-x-halfway
 returns-then-x-halfway c =

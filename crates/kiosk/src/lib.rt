@@ -1,6 +1,8 @@
 // The C interface: every operation of the library under a C name, over numbers and slices, for
-// include/kiosk.h, as a static library. It promises that C gets exactly what the operation says, as a count or minus the
+// include/kiosk.h. It promises that C gets exactly what the operation says, as a count or minus the
 // refusal's number, and exactly its bytes and counts; it asks nothing of a caller that C's types do not say.
+// C has no Result and no enum with fields: so an answer is one number, with its place behind a pointer, and each kind of
+// conversion and tint has a name of its own.
 #![tactic(auto)]
 
 ghost use Rattle.std.specs.Prelude.{◌≡◌, ◌≤◌, length, get_or, take};
@@ -347,7 +349,7 @@ pub extern "C" fn kiosk_round_trip(
 
 // Both runs of an sRGB picture (rule 5.2), five calls of Convert: to codes, those to luma and chroma and
 // back, then both pictures of codes to 8 bits. `answers` and `places` are filled in the order of the calls, and
-// `clipped` in that of the last two.
+// `clipped` in that of the last two; C lends them side by side.
 #[unsafe(no_mangle)]
 pub extern "C" fn kiosk_both_runs(
     depth: u32,
@@ -414,7 +416,8 @@ fn length_of(found: Found) -> i64
     }
 }
 
-// Both, with the record as the bytes that it has in one of the layouts.
+// Both, with the record as the bytes that it has in one of the layouts: an array, whose length is B's, since the bound of
+// a function cannot name a const parameter.
 fn recorded<B: Copy, F: FnOnce(StridedRecord) -> B>(found: Found, bytes: F, frame: &mut B) -> i64
     requires { F.pre bytes (record_of (find_said found)) }
     ensures value { result ≡ find_answer (find_said found) }
@@ -424,6 +427,7 @@ fn recorded<B: Copy, F: FnOnce(StridedRecord) -> B>(found: Found, bytes: F, fram
     length_of(found)
 }
 
+// The bytes of a plain record, which has no stride.
 fn plain_bytes(strided: StridedRecord) -> [u8; RECORD_SIZE]
     ensures { result ≡ record_bytes Plain strided }
 {

@@ -34,6 +34,9 @@ impl TryFrom<u32> for Depth {
     }
 }
 
+// ---- the numbers of a depth
+// Each is a table of three numbers; a function that took them would say no more.
+
 // The bits of a code.
 fn bits_of(depth: Depth) -> u16
     ensures { result ≡ bits depth }
@@ -66,6 +69,8 @@ pub fn greatest_of(depth: Depth) -> u16
         Depth::Sixteen => 65535,
     }
 }
+
+// ---- rules for samples
 
 // What is done to each sample of a picture. The numbers of a depth are worked out once, before the
 // loop, and the loop's arithmetic is on 16 bits, so that a compiler can do several samples at once.

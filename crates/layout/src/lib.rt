@@ -124,7 +124,8 @@ fn check_records(records: &[FrameRecord]) -> Answer
     Ok(end)
 }
 
-// The pass that writes, in a plain spool whose pixels start at `first`.
+// The pass that writes, in a plain spool whose pixels start at `first`. It is two lines round `visit`, as the pass of
+// `relayout` is: a function over both would take the records from a closure.
 #[tactic(auto, using(crate::proofs::Checking::stays, crate::proofs::Passes::one_more, crate::proofs::Passes::none_left))]
 fn write_records(records: &[FrameRecord], first: usize, dst: &mut [u8]) -> Answer
     ensures { state_of result dst.new ≡ walked Plain records.now 0 (starts first dst.old) }

@@ -8,6 +8,9 @@ ghost use Rattle.std.specs.Prelude.{◌≡◌, [], ◌∷◌, ◌+◌, ◌-◌, 
 ghost use Rattle.numbers.specs.Bytes.{little_endian, low_bytes};
 ghost use Rattle.numbers.specs.HowRanked.{rank};
 
+// ---- bytes
+// Two bytes and four have functions of their own: no trait of the library covers both widths.
+
 // The number of two bytes, the low byte first.
 pub fn from_two(bytes: [u8; 2]) -> u16
     ensures { result ≡ little_endian bytes }
@@ -35,6 +38,8 @@ pub fn four_bytes(v: u32) -> [u8; 4]
 {
     u32::to_le_bytes(v)
 }
+
+// ---- numbers
 
 // How far a number is above a limit, and 0 if it is not: a difference of ℕ. A processor has one instruction
 // that does this to several samples at once.

@@ -260,7 +260,8 @@ fn fill_by_rule(rule: PixelRule, depth: Depth, src: &[u8], dst: &mut [u8])
 
 // ---- the plan of a conversion
 
-// The loop to run, with its numbers.
+// The loop to run, with its numbers. It is chosen before the source is judged and runs after that, and a closure may
+// not be handed out; it is matched once a call, and in no loop.
 #[derive(Clone, Copy)]
 pub enum Work {
     Widen(Line),

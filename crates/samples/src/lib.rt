@@ -13,6 +13,7 @@ use numbers::{excess, from_two};
 use refusal::{Answer, Refusal};
 
 // ---- sizes
+// Each has two numbers, one for samples of two bytes; a function that took them would say no more.
 
 // The bytes of a sample.
 fn sample_size(wide: bool) -> usize
@@ -36,6 +37,8 @@ pub fn sample_count(wide: bool, bytes: usize) -> usize
 }
 
 // ---- reading
+// A number behind the last has a value, and no None, so that no caller has a bound to show; bytes and their width go
+// by themselves, since a struct of them would be made for one call.
 
 // Sample k of a buffer of two-byte samples.
 fn wide_sample(src: &[u8], k: usize) -> u16

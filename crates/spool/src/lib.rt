@@ -110,7 +110,7 @@ pub fn find(file: &[u8], number: usize) -> Found
 }
 
 // A frame's pixels, where they lie in the lent file, gaps included. For a frame that is refused, that is
-// the empty part at the file's start.
+// the empty part at the file's start, and not None, as `IsPixels` has it.
 #[tactic(auto, using(crate::proofs::FindFaults::pixels_inside))]
 pub fn pixels(file: &[u8], number: usize) -> &[u8]
     ensures { IsPixels file.entry number result }

@@ -93,7 +93,7 @@ impl SampleRule for Line {
 
     #[tactic(auto, unfolding(crate::specs::HowApplied::affine))]
     fn apply(self, sample: u16) -> u16 {
-        ((self.factor as u32 * sample as u32 + self.offset as u32) % 65536) as u16
+        self.factor.wrapping_mul(sample).wrapping_add(self.offset)
     }
 }
 
@@ -110,7 +110,7 @@ impl SampleRule for Cut {
     #[tactic(auto, unfolding(crate::specs::HowApplied::to_eight))]
     fn apply(self, sample: u16) -> u16 {
         let value = excess(sample, self.low) >> (self.shift % 16);
-        if 255 < value { 255 } else { value }
+        value.min(255)
     }
 }
 
@@ -130,7 +130,7 @@ impl SampleRule for Rounding {
     #[tactic(auto, unfolding(crate::specs::HowApplied::round))]
     fn apply(self, sample: u16) -> u16 {
         let quotient = saturating_add(sample, self.lift) >> (self.shift % 16);
-        ((quotient as u32 + 65536 - self.base as u32) % 65536) as u16
+        quotient.wrapping_sub(self.base)
     }
 }
 
@@ -178,7 +178,7 @@ pub fn gamut_of(depth: Depth) -> Gamut
 pub fn above_lowest(gamut: Gamut, code: u16) -> u16
     ensures { result ≡ above_lowest gamut code }
 {
-    ((code as u32 + 65536 - gamut.lowest as u32) % 65536) as u16
+    code.wrapping_sub(gamut.lowest)
 }
 
 // Is it a code that sRGB cannot hold?

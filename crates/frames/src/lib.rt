@@ -19,7 +19,8 @@ fn next_number(file: &[u8], number: usize) -> usize
     }
 }
 
-// What is found at a number, and the number of the frame to look for next.
+// What is found at a number, and the number of the frame to look for next, for callers that have no `Frames`: C holds
+// the file and the number apart.
 #[derive(Clone, Copy)]
 pub struct Visit {
     pub found: Found,

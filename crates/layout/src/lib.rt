@@ -60,7 +60,8 @@ fn write_record(dst: &mut [u8], layout: Layout, place: usize, end: usize, frame:
 }
 
 // The same check, and the record written if it is sound. Both passes check, so that neither has to
-// know that the other came before it.
+// know that the other came before it. Where a record goes is four parameters: a struct of them would be
+// made for one call, and is no plainer.
 pub fn visit(dst: &mut [u8], layout: Layout, end: usize, place: usize, frame: FrameRecord) -> Answer
     ensures { state_of result dst.new ≡ visited layout (starts end dst.old) place frame }
 {

@@ -22,7 +22,8 @@ use refusal::{Answer, Refusal};
 use samples::{Coding, Pixel, count_pixels, examine, sample};
 use transfer::table::light_table;
 
-// Codes to light: each two-byte sample becomes a number. It refuses as Convert does.
+// Codes to light: each two-byte sample becomes a number. It refuses as Convert does. C lends the depth and the buffers
+// apart.
 #[tactic(auto, unfolding(samples::specs::Faults::source_says))]
 pub fn code_to_light(depth: u32, src: &[u8], dst: &mut [i32]) -> Answer
     ensures answer { said result ≡ codes_to_light_says depth src.now (length dst.old) }

@@ -9,7 +9,8 @@ use listing::{INPUT_LIMIT, LISTING_ROOM, write_whole_listing};
 use std::io;
 use std::io::{Read, Write};
 
-// Reads to the end of the input, or until the buffer is full: how many bytes there are.
+// Reads to the end of the input, or until the buffer is full: how many bytes there are. It is a `while`, because no read
+// of the library says how far it came in a lent buffer when the input ends.
 fn read_input<R: Read>(source: &mut R, file: &mut [u8]) -> io::Result<usize>
     ensures { IfOk result (λ n. n ≤ length file.new) }
 {

@@ -94,9 +94,9 @@ module _ {up down den : ℕ} (s : InRange up down den) where
   not_above_luma h = ⊎_elim (λ e. at-luma (omega arith) h) (λ l. below (omega arith)) (eq-zero-or-pos (down - up))
 
 -- A biased quotient is the definition's chroma once the middle code is in the bias's place.
-pub is-chroma : (d : Depth) (up down den q : ℕ) → Biased up down den q → q - (bias - middle (bits d)) ≡ chroma (bits d) up down den
+pub stored-chroma : (d : Depth) (up down den q : ℕ) → Biased up down den q → q - (bias - middle (bits d)) ≡ chroma (bits d) up down den
 unfolding chroma
-is-chroma d up down den q b =
+stored-chroma d up down den q b =
     let s = scale d in
     omega (arith, b.rounded)
 
@@ -105,6 +105,11 @@ same-chroma :
     (n den up down up' down' : ℕ) → up - down ≡ up' - down' → down - up ≡ down' - up' → chroma n up down den ≡ chroma n up' down' den
 unfolding chroma
 same-chroma n den up down up' down' e f = λ i. middle n + nearest_down (e i) den - nearest_down (f i) den
+
+pub is-chroma :
+    (d : Depth) (up down den q up' down' : ℕ) → Biased up down den q → up - down ≡ up' - down' → down - up ≡ down' - up'
+    → q - (bias - middle (bits d)) ≡ chroma (bits d) up' down' den
+is-chroma d up down den q up' down' b e f = stored-chroma d up down den q b ∙ same-chroma (bits d) den up down up' down' e f
 
 module _ (n : ℕ) (p : Pixel) where
   pub is-blue_chroma : chroma n (1000 * p.third) (weighted p) 1772 ≡ blue_chroma n p.first p.second p.third

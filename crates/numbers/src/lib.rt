@@ -9,7 +9,8 @@ ghost use Rattle.numbers.specs.Bytes.{little_endian, low_bytes};
 ghost use Rattle.numbers.specs.HowRanked.{rank};
 
 // ---- bytes
-// Two bytes and four have functions of their own: no trait of the library covers both widths.
+// Two bytes and four have functions of their own: no trait of the library covers both widths, and one of our own would
+// be longer than both.
 
 // The number of two bytes, the low byte first.
 pub fn from_two(bytes: [u8; 2]) -> u16

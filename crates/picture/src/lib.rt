@@ -19,7 +19,8 @@ use numbers::{raised, rank_of, two_bytes};
 use refusal::{Fault, Refusal};
 use samples::{Coding, Pixel};
 
-// The conversions of rule 4.1. A depth may be any number; rule 1.1 says which are offered.
+// The conversions of rule 4.1. A depth may be any number, as C gives it; `convert` promises to refuse what rule 1.1 does
+// not offer.
 #[derive(Clone, Copy)]
 pub enum Conversion {
     FromSrgb { depth: u32 },
@@ -34,6 +35,8 @@ pub enum Conversion {
 }
 
 // ---- the loop over samples
+// Whether samples are wide, in the source and in the destination, is a parameter: beside the bound of a closure the check
+// fails on a const one.
 
 // Writes sample k. What stands behind it is not said: the loops write every sample, in order.
 fn put(dst: &mut [u8], wide: bool, k: usize, x: u16)

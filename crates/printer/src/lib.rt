@@ -58,7 +58,7 @@ const TURN_LIMIT: u32 = 100000;
 const PRINT_LIMIT: u32 = 999;
 
 // Does arrival i keep the limits, behind one of turn `before`? Each limit is a way of its own through the function, so
-// that each wrong one is refused by a fact of its own.
+// that the wrong programs of each limit are refused by a fact of its own.
 #[tactic(auto, using(std::proofs::lemmas::Bool::Decides::nat_tests), unfolding(crate::specs::Arrivals::keeps_limits))]
 fn keeps_limits(i: usize, before: u32, arrival: Arrival) -> bool
     ensures { result ≡ keeps_limits i before arrival }

@@ -132,6 +132,7 @@ fn first_number(layout: Layout, count: u16) -> u16
 }
 
 // ---- from bytes
+// A layout and the bytes are two parameters: a struct of them would be made for one call, and is no plainer.
 
 // So many bytes from a place on.
 fn bytes_at<const N: usize>(bytes: &[u8], at: usize) -> [u8; N]

@@ -37,8 +37,8 @@ pub fn sample_count(wide: bool, bytes: usize) -> usize
 }
 
 // ---- reading
-// A number behind the last has a value, and no None, so that no caller has a bound to show; bytes and their width go
-// by themselves, since a struct of them would be made for one call.
+// A number behind the last has a value, as `get_or` promises it, and no None, so that no loop has a test. Bytes and their
+// width are two parameters: a struct would be made for one call, and is no plainer.
 
 // Sample k of a buffer of two-byte samples.
 fn wide_sample(src: &[u8], k: usize) -> u16

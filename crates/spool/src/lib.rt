@@ -86,6 +86,9 @@ fn frame_of(file: &[u8], strided: StridedRecord, gaps_taken: bool) -> Found
     Ok(strided)
 }
 
+// ---- finding
+// A file and a number are two parameters throughout: C lends them apart.
+
 // Finds a frame, where gaps between its rows are taken or not: its record, or why there is none. The
 // table of an open spool is inside the file, so that no record below the count is short.
 #[tactic(auto, using(crate::proofs::FindFaults::record_inside), unfolding(crate::specs::Find::find_fault, crate::specs::Find::record_at))]
@@ -147,7 +150,7 @@ pub fn row_extent(strided: StridedRecord, row: usize) -> Extent
 }
 
 // A row of a frame, where it lies in the lent file. One that is not there is the empty part at the
-// file's start.
+// file's start, and not None, as `IsRow` has it.
 #[tactic(auto, using(crate::proofs::Rows::found_row_inside))]
 pub fn row(file: &[u8], number: usize, row: usize) -> &[u8]
     ensures { IsRow file.entry number row result }

@@ -18,7 +18,7 @@ use Rattle.refusal.specs.Refusals.{number_of}
 use Rattle.records.specs.declared.FrameRecord.{FrameRecord}
 use Rattle.records.specs.declared.Header.{Header}
 use Rattle.records.specs.declared.Layout.{Layout}
-use Rattle.records.specs.Layout.{layout_of, other_layout, header_of, header_size, header_bytes}
+use Rattle.records.specs.Layout.{header_of, header_size, header_bytes}
 use Rattle.records.specs.Faults.{frame_limit}
 use Rattle.spool.specs.declared.Contents.{Contents}
 use Rattle.spool.specs.Open.{open_fault, open_said, open_says}
@@ -30,7 +30,6 @@ use Rattle.layout.specs.HowLaidOut.{State, starts, stopped, walked, readied}
 use Rattle.layout.proofs.Checking.{Fine, none, one}
 use Rattle.layout.proofs.Laid.{written_out}
 use Rattle.layout.proofs.RoundTrip.{front_length}
-use Rattle.relayout.specs.declared.OpenSpool.{OpenSpool}
 use Rattle.relayout.specs.Relayout.{target, records_from, records_of, frames_say, relayout_says, pixels_of, relaid}
 use Rattle.relayout.specs.HowCarried.{over}
 use Rattle.relayout.proofs.Frames.{records_length, AllSound, now_sound, later-sound, nothing_said, Checked, at_fault, fine, check, pixels-length}
@@ -74,10 +73,7 @@ how_many_lem file = records_length file (header_of file).count 0
 pub few : (file : List ℕ) → open_fault file ≡ sound → length (records_of file) ≤ frame_limit
 few file opens = let most = (open_file file opens).few in let many = how_many_lem file in rw many most
 
-module _ (spool : OpenSpool) (d : List ℕ) where
-  abbrev file : List ℕ
-  file = spool.file.now
-
+module _ (file d : List ℕ) (opens : open_fault file ≡ sound) where
   abbrev l : Layout
   l = target file
 
@@ -97,7 +93,7 @@ module _ (spool : OpenSpool) (d : List ℕ) where
   header = header_for l (length rs) shop total
 
   few_here : length rs ≤ frame_limit
-  few_here = few file spool.opens
+  few_here = few file opens
 
   -- The state before the table is written.
   abbrev begins : State
@@ -113,35 +109,31 @@ module _ (spool : OpenSpool) (d : List ℕ) where
 
   by_room : (a b : Bool) → ltb length_limit total ≡ a → eqb (length d) total ≡ b → AllSound file count 0 → Begun (after (accepted (all_pixels rs)))
   unfolding readied relayout_says
-  by_room true b e f all = ends (refused 14) tt (rw (spool.opens, nothing_said file count 0 all (room_says total (length d)), e)) (rw (le-ltb _ _ few_here, e)) (rw (le-ltb _ _ few_here, e))
+  by_room true b e f all = ends (refused 14) tt (rw (opens, nothing_said file count 0 all (room_says total (length d)), e)) (rw (le-ltb _ _ few_here, e)) (rw (le-ltb _ _ few_here, e))
   by_room false true e f all =
-      writes all (ltb-false _ _ e) (eqb-true _ _ f) (rw (spool.opens, nothing_said file count 0 all (room_says total (length d)), e, f)) (rw (le-ltb _ _ few_here, e, f))
-  by_room false false e f all = ends (refused 11) tt (rw (spool.opens, nothing_said file count 0 all (room_says total (length d)), e, f)) (rw (le-ltb _ _ few_here, e, f)) (rw (le-ltb _ _ few_here, e, f))
+      writes all (ltb-false _ _ e) (eqb-true _ _ f) (rw (opens, nothing_said file count 0 all (room_says total (length d)), e, f)) (rw (le-ltb _ _ few_here, e, f))
+  by_room false false e f all = ends (refused 11) tt (rw (opens, nothing_said file count 0 all (room_says total (length d)), e, f)) (rw (le-ltb _ _ few_here, e, f)) (rw (le-ltb _ _ few_here, e, f))
 
   by_check : Checked file count 0 → Begun (after (frames_say file (accepted (all_pixels rs)) count 0))
   unfolding readied relayout_says
   by_check (at_fault n at says) =
-      ends (refused_at n at) tt (rw (spool.opens, says (room_says total (length d)))) (rw (le-ltb _ _ few_here, says (accepted (all_pixels rs)))) (rw (le-ltb _ _ few_here, says (accepted (all_pixels rs))))
+      ends (refused_at n at) tt (rw (opens, says (room_says total (length d)))) (rw (le-ltb _ _ few_here, says (accepted (all_pixels rs)))) (rw (le-ltb _ _ few_here, says (accepted (all_pixels rs))))
   by_check (fine all) = rw (nothing_said file count 0 all (accepted (all_pixels rs))) (by_room (ltb length_limit total) (eqb (length d) total) refl refl all)
 
-  begun_by : {n number : ℕ} {m : Layout} {says : Said} {z : State} → n ≡ count → number ≡ shop → m ≡ l → says ≡ frames_say file (accepted (all_pixels rs)) n 0
+  pub begun : {n number : ℕ} {m : Layout} {says : Said} {z : State} → n ≡ count → number ≡ shop → m ≡ l → says ≡ frames_say file (accepted (all_pixels rs)) n 0
       → z ≡ readied m n number says d → Begun z
-  begun_by e f g h is =
+  begun e f g h is =
       subst Begun (sym (is ∙ rw (f, g, h, e) (ap (λ (k : ℕ). readied l k shop (frames_say file (accepted (all_pixels rs)) count 0) d) (sym (how_many_lem file))))) (by_check (check file count 0))
 
-  begun : {k m : Layout} {says : Said} {z : State} → k ≡ layout_of file → m ≡ other_layout k → says ≡ frames_say file (accepted (all_pixels rs)) spool.count 0
-      → z ≡ readied m spool.count spool.shop says d → Begun z
-  begun of to checked is = begun_by spool.counted spool.owned (to ∙ ap other_layout of) checked is
-
   -- Refused, the answer is the operation's, and the destination is as it was.
-  refused_ends : {z : State} → Begun z → Refuses z.says → (z.says ≡ relayout_says file (length d)) × (z.bytes ≡ leaves (relayout_says file (length d)) (relaid file) d)
+  pub refused_ends : {z : State} → Begun z → Refuses z.says → (z.says ≡ relayout_says file (length d)) × (z.bytes ≡ leaves (relayout_says file (length d)) (relaid file) d)
   refused_ends (ends s turned says e b) refuses = (e ∙ sym says, b ∙ refuses-leaves s (relaid file) d turned ∙ ap (λ (x : Said). leaves x (relaid file) d) (sym says))
   refused_ends (writes all small room says is) refuses = absurd (subst Refuses (ap (λ (y : State). y.says) is) refuses)
 
-  pub turned_away : (f : Fault) {k m : Layout} {says : Said} {d' : List ℕ} → k ≡ layout_of file → m ≡ other_layout k → says ≡ frames_say file (accepted (all_pixels rs)) spool.count 0
-      → stopped (fault_said f) d' ≡ readied m spool.count spool.shop says d
+  pub refused_by_check : (f : Fault) {n number : ℕ} {m : Layout} {says : Said} {d' : List ℕ} → n ≡ count → number ≡ shop → m ≡ l → says ≡ frames_say file (accepted (all_pixels rs)) n 0
+      → stopped (fault_said f) d' ≡ readied m n number says d
       → (fault_said f ≡ relayout_says file (length d)) × (d' ≡ leaves (relayout_says file (length d)) (relaid file) d)
-  turned_away f of to checked is = refused_ends (begun of to checked is) (fault_refuses f)
+  refused_by_check f counted owned to checked is = refused_ends (begun counted owned to checked is) (fault_refuses f)
 
   -- Accepted so far, all frames are sound, and there is room for their pixels.
   pub record Goes (z : State) (first : ℕ) : Type 0 where
@@ -157,19 +149,19 @@ module _ (spool : OpenSpool) (d : List ℕ) where
   goes_by (writes all small room says is) a =
       record { all = all; small = small; room = room; says = says; is = is; starts = let same = a ∙ ap (λ (y : State). y.says) is in cc }
 
-  pub goes : {k m : Layout} {says : Said} {first : ℕ} {d' : List ℕ} → k ≡ layout_of file → m ≡ other_layout k → says ≡ frames_say file (accepted (all_pixels rs)) spool.count 0
-      → starts first d' ≡ readied m spool.count spool.shop says d → Goes (starts first d') first
-  goes of to checked is = goes_by (begun of to checked is) refl
+  pub goes : {n number : ℕ} {m : Layout} {says : Said} {first : ℕ} {d' : List ℕ} → n ≡ count → number ≡ shop → m ≡ l → says ≡ frames_say file (accepted (all_pixels rs)) n 0
+      → starts first d' ≡ readied m n number says d → Goes (starts first d') first
+  goes counted owned to checked is = goes_by (begun counted owned to checked is) refl
 
   module _ {z : State} {first : ℕ} (g : Goes z first) where
     bytes-length : length (pixels_of file) ≡ all_pixels rs
-    bytes-length = pixels-length file count 0 spool.opens (le_of_eq (zero-add count)) g.all
+    bytes-length = pixels-length file count 0 opens (le_of_eq (zero-add count)) g.all
 
     pub room_for : (d' : List ℕ) → length d' ≡ length d → first + length (pixels_of file) ≤ length d'
     room_for d' long = let e = bytes-length in let f = g.starts in let h = g.room in rw (e, f, long, h) (omega arith)
 
-    pub each-sound : (k : ℕ) → k < spool.count → frame_fault false file (record_at file k) ≡ sound
-    each-sound k below = ap (λ (i : ℕ). frame_fault false file (record_at file i)) (sym (zero-add k)) ∙ g.all k (rw spool.counted at below)
+    pub each-sound : (k : ℕ) → k < count → frame_fault false file (record_at file k) ≡ sound
+    each-sound k below = ap (λ (i : ℕ). frame_fault false file (record_at file i)) (sym (zero-add k)) ∙ g.all k below
 
     abbrev front : List ℕ
     front = header_bytes l header ++ table_bytes l (placed (pixels_from l (length rs)) rs)
@@ -201,11 +193,11 @@ module _ (spool : OpenSpool) (d : List ℕ) where
         ∙ sym (spool-is (pixels_of file))
 
     -- What the table leaves, with the pixels copied over it.
-    module _ {k m : Layout} {s : Said} {w : List ℕ} (of : k ≡ layout_of file) (to : m ≡ other_layout k) (table : stopped s w ≡ walked m rs 0 z) where
+    module _ {m : Layout} {s : Said} {w : List ℕ} (to : m ≡ l) (table : stopped s w ≡ walked m rs 0 z) where
       out : stopped s w ≡ stopped (accepted total) (spool_bytes l rs shop tail)
       out =
           let ends = written_out l rs shop d few_here (records_fine file count 0 g.all) g.small g.room in
-          table ∙ ap (λ (x : Layout). walked x rs 0 z) (to ∙ ap other_layout of) ∙ ap (walked l rs 0) g.is ∙ ap₂ stopped ends.0 ends.1
+          table ∙ ap (λ (x : Layout). walked x rs 0 z) to ∙ ap (walked l rs 0) g.is ∙ ap₂ stopped ends.0 ends.1
 
       pub accepts : s ≡ accepted total
       accepts = ap (λ (y : State). y.says) out

@@ -55,7 +55,8 @@ impl<'a> OpenSpool<'a> {
         Ok(sum)
     }
 
-    // Writes the table of sound frames, so that none of them is refused here.
+    // Writes the table of sound frames, so that none of them is refused here. It is two lines round `visit`, as
+    // `write_records` of `layout` is: a function over both would take the records from a closure.
     #[tactic(auto, using(layout::proofs::Checking::stays, crate::proofs::Frames::walk_more, crate::proofs::Frames::walk_none))]
     fn write_table(&self, layout: Layout, first: usize, dst: &mut [u8]) -> Answer
         requires frames_sound { (k : ℕ) → k < self.now.count → frame_fault false self.now.file.now (record_at self.now.file.now k) ≡ sound }

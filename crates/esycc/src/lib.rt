@@ -32,7 +32,7 @@ fn clip(most: u16, low: u32, sum: u32) -> u16
 
 impl Sums {
     // The codes of sums that stand too high by low. Nearly every pixel needs no clipping, and one test says so: a
-    // sum below low wraps to far above every code.
+    // sum below low wraps to far above every code. A cast may lose no bit, so the remainder says which are kept.
     fn codes(self, most: u16, low: u32) -> Pixel
         requires { low ≤ back_lift }
         ensures { result ≡ codes_at most low self }

@@ -15,7 +15,7 @@ use samples::Pixel;
 // A quotient is estimated from shares of the channels, and what the estimate leaves of the dividend gives the
 // rest of it. Of each number 16 bits are enough, so that a compiler works on eight pixels at once.
 
-// How many numbers 16 bits hold.
+// How many numbers 16 bits hold. A remainder by it is a number's last 16 bits: a cast may lose no bit.
 const SPAN: u32 = 65536;
 
 // What a channel counts in luma and in a chroma, to the nearest part, where SPAN parts are the whole channel. In
@@ -100,7 +100,7 @@ struct Difference<const DEN: u32> {
     ghost near: { Estimates (biased_dividend (1000 * channel) (weighted pixel) DEN) DEN estimate },
 }
 
-// Of blue chroma (rule 2.3).
+// Of blue chroma (rule 2.3). It and that of red chroma are the data in which the two differ.
 fn blue_difference(p: Pixel) -> Difference<1772>
     ensures { (result.pixel ≡ p) × (result.channel ≡ p.third) }
 {

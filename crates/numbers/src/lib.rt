@@ -41,6 +41,7 @@ pub fn four_bytes(v: u32) -> [u8; 4]
 }
 
 // ---- numbers
+// The library's methods under names of their own, so that the wrong programs of must-fail/ hold each to its definition.
 
 // How far a number is above a limit, and 0 if it is not: a difference of ℕ. A processor has one instruction
 // that does this to several samples at once.

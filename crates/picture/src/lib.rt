@@ -38,7 +38,8 @@ pub enum Conversion {
 // Whether samples are wide, in the source and in the destination, is a parameter: beside the bound of a closure the check
 // fails on a const one.
 
-// Writes sample k. What stands behind it is not said: the loops write every sample, in order.
+// Writes sample k. What stands behind it is not said: the loops write every sample, in order. A cast may lose no bit,
+// so the remainder says which are kept.
 fn put(dst: &mut [u8], wide: bool, k: usize, x: u16)
     requires { place wide (k + 1) ≤ length dst.old }
     ensures { take (place wide (k + 1)) dst.new ≡ take (place wide k) dst.old ++ sample_bytes wide x }

@@ -1,3 +1,3 @@
 pub mod Operations
 pub mod Moved
-pub mod Searches
+pub mod HowSearched

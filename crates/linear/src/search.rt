@@ -23,7 +23,7 @@ pub struct LevelSearch {
 impl TryFrom<u32> for LevelSearch {
     type Error = Refusal;
 
-    ghost use Rattle.linear.specs.Searches.{Searches};
+    ghost use Rattle.linear.specs.HowSearched.{Searches};
 
     ghost try_from_gives = { Searches };
 

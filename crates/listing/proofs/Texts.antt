@@ -12,7 +12,7 @@ use lib.ListN.{length, take, drop, set, get_or, length-set}
 use lib.Seq.{drop-cons, take-suc-set}
 use borrow.Author.Tests.{lt-ltb, le-ltb, ltb-true, ltb-false}
 use Rattle.listing.specs.declared.Text.{Text}
-use Rattle.listing.specs.Adding.{shown, Adds}
+use Rattle.listing.specs.HowAdded.{shown, Adds}
 use Rattle.listing.specs.Text.{digits, decimal, Buffer, put, put_text}
 
 pub written_append : (b : Buffer) (xs ys : List ℕ) → put_text b (xs ++ ys) ≡ put_text (put_text b xs) ys

@@ -1,3 +1,3 @@
 pub mod Text
-pub mod Adding
+pub mod HowAdded
 pub mod Listing

@@ -7,7 +7,7 @@ ghost use Rattle.std.specs.Prelude.{◌≡◌, [], ◌∷◌, ◌++◌, ◌+◌,
 ghost use Rattle.refusal.specs.Refusals.{number_of};
 ghost use Rattle.spool.specs.Find.{finds, find_said};
 ghost use Rattle.listing.specs.Text.{decimal, put_text};
-ghost use Rattle.listing.specs.Adding.{Adds};
+ghost use Rattle.listing.specs.HowAdded.{Adds};
 ghost use Rattle.listing.specs.Listing.{refused_word, fields, line, lines, listing, listing_room};
 
 use records::{FRAME_LIMIT, StridedRecord};

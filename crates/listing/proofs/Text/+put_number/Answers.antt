@@ -1,6 +1,6 @@
 -- `listing::Text::put_number` meets its contract.
 use Rattle.listing.specs.Text.{decimal}
-use Rattle.listing.specs.Adding.{Adds}
+use Rattle.listing.specs.HowAdded.{Adds}
 use Rattle.listing.proofs.Texts.{both, one_digit, more-digits}
 use Rattle.listing.proofs.Text.+put_number.Goals as goal
 use Rattle.listing.proofs.Text.+put_number.Goals.{then-n-ge10, else-n-ge10}

@@ -59,12 +59,20 @@ fn write_record(dst: &mut [u8], layout: Layout, place: usize, end: usize, frame:
     dst[at..at + size].copy_from_slice(&bytes[..size]);
 }
 
-// The same check, and the record written if it is sound. Both passes check, so that neither has to
-// know that the other came before it. Where a record goes is four parameters: a struct of them would be
-// made for one call, and is no plainer.
-pub fn visit(dst: &mut [u8], layout: Layout, end: usize, place: usize, frame: FrameRecord) -> Answer
-    ensures { state_of result dst.new ≡ visited layout (starts end dst.old) place frame }
+// The same check after what a pass has answered so far, and the record written if it is sound. A pass that has been
+// refused stays so, and writes nothing. Both passes check, so that neither has to know that the other came before
+// it. Where a record goes is four parameters: a struct of them would be made for one call, and is no plainer.
+#[tactic(auto, using(crate::proofs::Passes::stays_refused))]
+pub fn visit(
+    dst: &mut [u8],
+    layout: Layout,
+    so_far: Answer,
+    place: usize,
+    frame: FrameRecord,
+) -> Answer
+    ensures { state_of result dst.new ≡ visited layout (state_of so_far dst.old) place frame }
 {
+    let end = so_far?;
     let next = check(end, place, frame)?;
     write_record(dst, layout, place, end, frame);
     Ok(next)
@@ -133,7 +141,7 @@ fn write_records(records: &[FrameRecord], first: usize, dst: &mut [u8]) -> Answe
 {
     let mut end = first;
     for (place, frame) in records.iter().enumerate() {
-        end = visit(dst, Layout::Plain, end, place, *frame)?;
+        end = visit(dst, Layout::Plain, Ok(end), place, *frame)?;
     }
     Ok(end)
 }

@@ -65,7 +65,7 @@ impl<'a> OpenSpool<'a> {
         let mut end = first;
         for k in 0..self.count {
             let frame = self.frame(k)?;
-            end = visit(dst, layout, end, k, frame)?;
+            end = visit(dst, layout, Ok(end), k, frame)?;
         }
         Ok(end)
     }

@@ -283,13 +283,25 @@ static AT_TWELVE: [u32; 2560] = [
     1678735,
 ];
 
+pub fn thresholds_at_ten() -> &'static [u32; 640]
+    ensures { ThresholdTable 10 result.now }
+{
+    &AT_TEN
+}
+
+pub fn thresholds_at_twelve() -> &'static [u32; 2560]
+    ensures { ThresholdTable 12 result.now }
+{
+    &AT_TWELVE
+}
+
 // The thresholds of a depth. Light has no codes of 16 bits, and so these have none.
 pub fn thresholds_of(depth: Depth) -> Option<&'static [u32]>
     ensures { MatchOption result (offers_codes (bits depth) ≡ false) (λ thresholds. (offers_codes (bits depth) ≡ true) × ThresholdTable (bits depth) thresholds.now) }
 {
     match depth {
-        Depth::Ten => Some(&AT_TEN),
-        Depth::Twelve => Some(&AT_TWELVE),
+        Depth::Ten => Some(thresholds_at_ten()),
+        Depth::Twelve => Some(thresholds_at_twelve()),
         Depth::Sixteen => None,
     }
 }

@@ -8,8 +8,9 @@ use native.Mathlib.Omega.{arith}
 use lib.IntN.{ℤ}
 use lib.ListN.{length, get_or}
 use Rattle.numbers.specs.Bytes.{AllBytes}
-use Rattle.refusal.specs.Answers.{Verdict, sound, Said, accepted, refused, refused_at, refuses_or, leaves}
-use Rattle.refusal.proofs.Verdicts.{or_stands}
+use Rattle.refusal.specs.declared.Fault.{Fault}
+use Rattle.refusal.specs.Answers.{Verdict, sound, Said, accepted, refused, refused_at, refuses_or, leaves, fault_said}
+use Rattle.refusal.proofs.Verdicts.{or_stands, fault_not_accepted}
 use Rattle.samples.specs.declared.Coding.TheVariants.{Codes}
 use Rattle.samples.specs.Samples.{two_by_two}
 use Rattle.samples.proofs.Judging.{accepted-within, accepted-count}
@@ -46,6 +47,9 @@ module _ (n : ℕ) (codes : List ℕ) (moves light : List ℤ) (back : List ℕ)
   pub refused-first :
       (s : Said) → ((m : ℕ) → s ≡ accepted m → ⊥) → s ≡ refuses_or fault (accepted (length codes / 6)) → Through n codes moves light light back back s
   refused-first s never h = untouched s never (or_stands fault (length codes / 6) (codes_to_light_says n codes (length light)) s never h) light refl
+
+  pub ended_first : (f : Fault) → fault_said f ≡ refuses_or fault (accepted (length codes / 6)) → Through n codes moves light light back back (fault_said f)
+  ended_first f h = refused-first (fault_said f) (fault_not_accepted f) h
 
   module _ (fits : fault ≡ sound) (s : Said) (h : s ≡ codes_to_light_says n codes (length light)) where
     answer-is : s ≡ through_says n codes (length moves) (length light) (length back)

@@ -12,6 +12,7 @@ use refusal::{Answer, Refusal};
 use samples::count_pixels;
 
 // Codes to light, moved, and back to codes. Refused, both destinations stay as they were.
+#[tactic(auto, using(crate::proofs::Through::ended_first))]
 pub fn through_light(
     depth: u32,
     codes: &[u8],

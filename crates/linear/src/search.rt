@@ -67,12 +67,14 @@ impl LevelSearch {
         level
     }
 
-    // Where the search for a level starts. An entry is a level of 12 bits, whose step is 8.
+    // Where the search for a level starts. An entry is a level of 12 bits, whose step is 8; codes have 320 * step levels
+    // from 0 up. That is the length of the table too, but as a product it is a constant in the loop of each depth, so
+    // that the compiler makes no branch of it.
     fn start_of(self, light: u32) -> usize
         ensures { result ≡ start_of (step (bits self.depth)) self.starts.now light }
     {
         let step = step_of(self.depth) as usize;
         let first = self.starts[group_of(light)] as usize * step / 8;
-        first.min(self.thresholds.len() - FEW_LEVELS)
+        first.min(320 * step - FEW_LEVELS)
     }
 }

@@ -1,13 +1,13 @@
 -- A list of arrivals, one after another: what is said of it, and what is known of one that is accepted.
 -- Assumes nothing.
-use Prim.Native.Nat.{ℕ, zero, suc, ◌+◌, ◌*◌, ◌/◌, ◌≤◌, ◌<◌}
+use Prim.Native.Nat.{ℕ, zero, suc, ◌+◌, ◌*◌, ◌/◌, ◌%◌, ◌≤◌, ◌<◌}
 use mathlib.Core.Path.{◌≡◌, refl, sym, ap, ◌∙◌}
 use mathlib.Core.Bool.{Bool, true, false, cond}
 use mathlib.Core.List.{List, [], ◌∷◌}
 use native.Mathlib.Omega.{arith}
 use lib.Dec.{ltb, leb}
 use lib.ListN.{length, get_or, drop, length-drop}
-use borrow.Author.Tests.{ltb-true, leb-true}
+use borrow.Author.Tests.{ltb-true, leb-true, eq-eqb, ne_eqb}
 use Rattle.numbers.proofs.Booleans.{and_true}
 use Rattle.std.specs.Simd.{first_chunks}
 use Rattle.numbers.specs.Threes.{threes}
@@ -84,6 +84,14 @@ say_done done i before (a ∷ list) h = absurd (omega arith)
 
 pub say_behind : (done : Said) (i before : ℕ) (list : List Arrival) → length list ≤ i → arrivals_say done i before (drop i list) ≡ done
 say_behind done i before list h = say_done done i before (drop i list) (simp length-drop (omega arith))
+
+-- ---- where the list ends: whole, or with numbers left over
+module _ (numbers : List ℕ) (turns i before : ℕ) (rows : List (List ℕ)) (past : length rows ≤ i) (e : simulation_says numbers turns ≡ arrivals_say (end_says numbers turns) i before (drop i (listed rows))) where
+  pub ends_whole : length numbers % 3 ≡ 0 → accepted turns ≡ simulation_says numbers turns
+  ends_whole whole = sym (e ∙ say_behind _ i before (listed rows) (omega (arith, length-listed rows)) ∙ simp (eq-eqb _ _ whole))
+
+  pub ends_short : (length numbers % 3 ≡ 0 → ⊥) → refused_at 22 (length numbers / 3) ≡ simulation_says numbers turns
+  ends_short short = sym (e ∙ say_behind _ i before (listed rows) (omega (arith, length-listed rows)) ∙ simp (ne_eqb _ _ short))
 
 -- ---- what is known of a list that is accepted
 keeps_due : (i before : ℕ) (a : Arrival) → keeps_limits i before a ≡ true → (i < arrival_limit) × Due before a

@@ -82,6 +82,7 @@ fn keeps_limits(i: usize, before: u32, arrival: Arrival) -> bool
 }
 
 // The first arrival at fault, if there is one.
+#[tactic(auto, using(crate::proofs::Judging::ends_whole, crate::proofs::Judging::ends_short))]
 fn judge(numbers: &[u32]) -> Result<(), Fault>
     ensures { (turns : ℕ) → said_by (λ _. turns) result ≡ simulation_says numbers.now turns }
 {
@@ -153,11 +154,14 @@ impl Printer {
         ensures next { unwrap_or result idle ≡ next_kiosk self.now.waiting self.now.first }
         ensures waits { IfSome result (λ k. HasPrint self.now.waiting k) }
     {
+        // The number of a kiosk is carried on: worked out anew from `first`, a turn takes a quarter longer where all
+        // kiosks are busy.
+        let mut k = self.first;
         for ahead in 0..KIOSKS {
-            let k = (self.first + ahead) % KIOSKS;
             if self.waiting[k] != 0 {
                 return Some(k as u8);
             }
+            k = (k + 1) % KIOSKS;
         }
         None
     }

@@ -1,19 +1,9 @@
 -- `linear::moved::through_light` meets its contract: lengths that do not fit leave all as it was, and where nothing is refused there are codes
 -- to light, the moves, and light to codes.
-use mathlib.Core.Path.{◌≡◌, refl, sym, ◌∙◌}
-use Rattle.std.proofs.Common.{rules}
-use Rattle.refusal.specs.Answers.{said, fault_said}
-use Rattle.refusal.proofs.Verdicts.{or_accepted, fault_not_accepted}
-use Rattle.linear.proofs.Through.{refused-first, comes_back_told}
+use mathlib.Core.Path.{refl, sym, ◌∙◌}
+use Rattle.refusal.proofs.Verdicts.{or_accepted}
+use Rattle.linear.proofs.Through.{comes_back_told}
 use Rattle.linear.proofs.moved.through_light.Goals as goal
-
-pub returns-in_err-count_through : goal.returns-in_err-count_through
-returns-in_err-count_through c =
-    let a = c.args in
-    let fault = c.in_err-count_through.field-0.0 in
-    let same : said c.from_residual.result ≡ fault_said fault = search rules in
-    refused-first a.depth a.codes.now a.moves.now a.light.now a.back.now _ (λ n h. fault_not_accepted fault n (sym same ∙ h))
-    (same ∙ c.in_err-count_through.ensures)
 
 pub returns : goal.returns
 returns c =

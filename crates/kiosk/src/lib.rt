@@ -98,16 +98,14 @@ fn converted(conversion: Conversion, src: &[u8], dst: &mut [u8], place: &mut usi
 }
 
 // 8-bit sRGB to e-sRGB.
-#[unsafe(no_mangle)]
-pub extern "C" fn kiosk_from_srgb(depth: u32, src: &[u8], dst: &mut [u8], place: &mut usize) -> i64
+pub fn kiosk_from_srgb(depth: u32, src: &[u8], dst: &mut [u8], place: &mut usize) -> i64
     ensures { Converts (Conversion.FromSrgb depth) src.now result dst.old dst.new place.old place.new }
 {
     converted(Conversion::FromSrgb { depth }, src, dst, place)
 }
 
 // E-sRGB to 8-bit sRGB, and how many pixels have a colour that sRGB cannot hold.
-#[unsafe(no_mangle)]
-pub extern "C" fn kiosk_to_srgb(
+pub fn kiosk_to_srgb(
     depth: u32,
     src: &[u8],
     dst: &mut [u8],
@@ -123,72 +121,49 @@ pub extern "C" fn kiosk_to_srgb(
 }
 
 // E-sRGB of one depth to another.
-#[unsafe(no_mangle)]
-pub extern "C" fn kiosk_change_depth(
-    from: u32,
-    to: u32,
-    src: &[u8],
-    dst: &mut [u8],
-    place: &mut usize,
-) -> i64
+pub fn kiosk_change_depth(from: u32, to: u32, src: &[u8], dst: &mut [u8], place: &mut usize) -> i64
     ensures { Converts (Conversion.ChangeDepth from to) src.now result dst.old dst.new place.old place.new }
 {
     converted(Conversion::ChangeDepth { from, to }, src, dst, place)
 }
 
 // E-sRGB to luma and chroma.
-#[unsafe(no_mangle)]
-pub extern "C" fn kiosk_to_luma_chroma(
-    depth: u32,
-    src: &[u8],
-    dst: &mut [u8],
-    place: &mut usize,
-) -> i64
+pub fn kiosk_to_luma_chroma(depth: u32, src: &[u8], dst: &mut [u8], place: &mut usize) -> i64
     ensures { Converts (Conversion.ToLumaChroma depth) src.now result dst.old dst.new place.old place.new }
 {
     converted(Conversion::ToLumaChroma { depth }, src, dst, place)
 }
 
 // Luma and chroma back to e-sRGB.
-#[unsafe(no_mangle)]
-pub extern "C" fn kiosk_from_luma_chroma(
-    depth: u32,
-    src: &[u8],
-    dst: &mut [u8],
-    place: &mut usize,
-) -> i64
+pub fn kiosk_from_luma_chroma(depth: u32, src: &[u8], dst: &mut [u8], place: &mut usize) -> i64
     ensures { Converts (Conversion.FromLumaChroma depth) src.now result dst.old dst.new place.old place.new }
 {
     converted(Conversion::FromLumaChroma { depth }, src, dst, place)
 }
 
 // E-sRGB to e-sYCC.
-#[unsafe(no_mangle)]
-pub extern "C" fn kiosk_to_esycc(depth: u32, src: &[u8], dst: &mut [u8], place: &mut usize) -> i64
+pub fn kiosk_to_esycc(depth: u32, src: &[u8], dst: &mut [u8], place: &mut usize) -> i64
     ensures { Converts (Conversion.ToEsycc depth) src.now result dst.old dst.new place.old place.new }
 {
     converted(Conversion::ToEsycc { depth }, src, dst, place)
 }
 
 // e-sYCC to e-sRGB.
-#[unsafe(no_mangle)]
-pub extern "C" fn kiosk_from_esycc(depth: u32, src: &[u8], dst: &mut [u8], place: &mut usize) -> i64
+pub fn kiosk_from_esycc(depth: u32, src: &[u8], dst: &mut [u8], place: &mut usize) -> i64
     ensures { Converts (Conversion.FromEsycc depth) src.now result dst.old dst.new place.old place.new }
 {
     converted(Conversion::FromEsycc { depth }, src, dst, place)
 }
 
 // E-sRGB to sYCC.
-#[unsafe(no_mangle)]
-pub extern "C" fn kiosk_to_sycc(depth: u32, src: &[u8], dst: &mut [u8], place: &mut usize) -> i64
+pub fn kiosk_to_sycc(depth: u32, src: &[u8], dst: &mut [u8], place: &mut usize) -> i64
     ensures { Converts (Conversion.ToSycc depth) src.now result dst.old dst.new place.old place.new }
 {
     converted(Conversion::ToSycc { depth }, src, dst, place)
 }
 
 // sYCC to e-sRGB.
-#[unsafe(no_mangle)]
-pub extern "C" fn kiosk_from_sycc(depth: u32, src: &[u8], dst: &mut [u8], place: &mut usize) -> i64
+pub fn kiosk_from_sycc(depth: u32, src: &[u8], dst: &mut [u8], place: &mut usize) -> i64
     ensures { Converts (Conversion.FromSycc depth) src.now result dst.old dst.new place.old place.new }
 {
     converted(Conversion::FromSycc { depth }, src, dst, place)
@@ -197,21 +172,14 @@ pub extern "C" fn kiosk_from_sycc(depth: u32, src: &[u8], dst: &mut [u8], place:
 // ---- linear light
 
 // E-sRGB codes to linear light.
-#[unsafe(no_mangle)]
-pub extern "C" fn kiosk_code_to_light(
-    depth: u32,
-    src: &[u8],
-    dst: &mut [i32],
-    place: &mut usize,
-) -> i64
+pub fn kiosk_code_to_light(depth: u32, src: &[u8], dst: &mut [i32], place: &mut usize) -> i64
     ensures { Gives (codes_to_light_says depth src.now (length dst.old)) (codes_to_light depth src.now) result dst.old dst.new place.old place.new }
 {
     answered(code_to_light(depth, src, dst), place)
 }
 
 // Linear light to e-sRGB codes. No refusal of it has a place.
-#[unsafe(no_mangle)]
-pub extern "C" fn kiosk_light_to_code(depth: u32, src: &[i32], dst: &mut [u8]) -> i64
+pub fn kiosk_light_to_code(depth: u32, src: &[i32], dst: &mut [u8]) -> i64
     ensures value { result ≡ answer_of (light_to_codes_says depth (length src.now) (length dst.old)) }
     ensures bytes { dst.new ≡ leaves (light_to_codes_says depth (length src.now) (length dst.old)) (light_to_codes depth src.now) dst.old }
 {
@@ -220,8 +188,7 @@ pub extern "C" fn kiosk_light_to_code(depth: u32, src: &[i32], dst: &mut [u8]) -
 }
 
 // E-sRGB codes to linear light, a move added to each number of it, and back to codes.
-#[unsafe(no_mangle)]
-pub extern "C" fn kiosk_through_light(
+pub fn kiosk_through_light(
     depth: u32,
     codes: &[u8],
     moves: &[i32],
@@ -250,8 +217,7 @@ fn tinted(tint: Tint, pixel: &mut [u16; 3], place: &mut usize) -> i64
 }
 
 // A tint of 8-bit values. It is never refused.
-#[unsafe(no_mangle)]
-pub extern "C" fn kiosk_tint_code(red: u8, green: u8, blue: u8, pixel: &mut [u16; 3])
+pub fn kiosk_tint_code(red: u8, green: u8, blue: u8, pixel: &mut [u16; 3])
     ensures { pixel.new ≡ samples_of_one (tint_pixel (Tint.Code red green blue)) }
 {
     let mut place = 0;
@@ -259,8 +225,7 @@ pub extern "C" fn kiosk_tint_code(red: u8, green: u8, blue: u8, pixel: &mut [u16
 }
 
 // A tint of nonlinear numbers.
-#[unsafe(no_mangle)]
-pub extern "C" fn kiosk_tint_nonlinear(
+pub fn kiosk_tint_nonlinear(
     red: f64,
     green: f64,
     blue: f64,
@@ -273,8 +238,7 @@ pub extern "C" fn kiosk_tint_nonlinear(
 }
 
 // A tint of light.
-#[unsafe(no_mangle)]
-pub extern "C" fn kiosk_tint_light(
+pub fn kiosk_tint_light(
     red: f64,
     green: f64,
     blue: f64,
@@ -290,8 +254,7 @@ pub extern "C" fn kiosk_tint_light(
 
 // Four tints out of 16 for a picture: how many choices were looked at. Where that is accepted, `four` gets their
 // numbers, and `sums` the sum with them and that with all tints.
-#[unsafe(no_mangle)]
-pub extern "C" fn kiosk_stickers(
+pub fn kiosk_stickers(
     src: &[u8],
     tints: &[u16; TINT_CODES],
     budget: usize,
@@ -318,8 +281,7 @@ pub extern "C" fn kiosk_stickers(
 // ---- a shared printer
 
 // As many turns as there are bytes, each with the kiosk that is served: how many.
-#[unsafe(no_mangle)]
-pub extern "C" fn kiosk_printer(numbers: &[u32], bytes: &mut [u8], place: &mut usize) -> i64
+pub fn kiosk_printer(numbers: &[u32], bytes: &mut [u8], place: &mut usize) -> i64
     ensures { Gives (simulation_says numbers.now (length bytes.old)) (turn_bytes (arrivals numbers.now) (length bytes.old)) result bytes.old bytes.new place.old place.new }
 {
     answered(simulate(numbers, bytes), place)
@@ -329,8 +291,7 @@ pub extern "C" fn kiosk_printer(numbers: &[u32], bytes: &mut [u8], place: &mut u
 
 // E-sRGB to luma and chroma, and those back in a third buffer: two calls of Convert, the first of
 // which gives what is returned.
-#[unsafe(no_mangle)]
-pub extern "C" fn kiosk_round_trip(
+pub fn kiosk_round_trip(
     depth: u32,
     codes: &[u8],
     ycc: &mut [u8],
@@ -350,8 +311,7 @@ pub extern "C" fn kiosk_round_trip(
 // Both runs of an sRGB picture (rule 5.2), five calls of Convert: to codes, those to luma and chroma and
 // back, then both pictures of codes to 8 bits. `answers` and `places` are filled in the order of the calls, and
 // `clipped` in that of the last two; C lends them side by side.
-#[unsafe(no_mangle)]
-pub extern "C" fn kiosk_both_runs(
+pub fn kiosk_both_runs(
     depth: u32,
     picture: &[u8],
     codes: &mut [u8],
@@ -384,8 +344,7 @@ pub extern "C" fn kiosk_both_runs(
 // ---- the spool
 
 // Opens a spool: its frame count; shop and table offset through the pointers.
-#[unsafe(no_mangle)]
-pub extern "C" fn kiosk_open(file: &[u8], shop: &mut u16, table: &mut u32) -> i64
+pub fn kiosk_open(file: &[u8], shop: &mut u16, table: &mut u32) -> i64
     ensures value { result ≡ open_answer (open_says file.now) }
     ensures shop { shop.new ≡ open_shop (open_says file.now) shop.old }
     ensures table { table.new ≡ open_table (open_says file.now) table.old }
@@ -435,8 +394,7 @@ fn plain_bytes(strided: StridedRecord) -> [u8; RECORD_SIZE]
 }
 
 // Finds a frame: the length of its pixels, which start at the record's offset. The record is a plain one.
-#[unsafe(no_mangle)]
-pub extern "C" fn kiosk_find(file: &[u8], number: usize, frame: &mut [u8; RECORD_SIZE]) -> i64
+pub fn kiosk_find(file: &[u8], number: usize, frame: &mut [u8; RECORD_SIZE]) -> i64
     ensures value { result ≡ find_answer (find_says file.now number) }
     ensures frame { frame.new ≡ find_record Plain (find_says file.now number) }
 {
@@ -444,12 +402,7 @@ pub extern "C" fn kiosk_find(file: &[u8], number: usize, frame: &mut [u8; RECORD
 }
 
 // The same, with the frame's stride in the record.
-#[unsafe(no_mangle)]
-pub extern "C" fn kiosk_find_strided(
-    file: &[u8],
-    number: usize,
-    frame: &mut [u8; STRIDED_RECORD_SIZE],
-) -> i64
+pub fn kiosk_find_strided(file: &[u8], number: usize, frame: &mut [u8; STRIDED_RECORD_SIZE]) -> i64
     ensures value { result ≡ find_answer (find_says file.now number) }
     ensures frame { frame.new ≡ find_record Strided (find_says file.now number) }
 {
@@ -468,8 +421,7 @@ fn stepped(file: &[u8], next: &mut usize) -> Found
 
 // One step of the walk over a spool's frames: finds frame `next`, and moves `next` on. The record is a
 // plain one.
-#[unsafe(no_mangle)]
-pub extern "C" fn kiosk_step(file: &[u8], next: &mut usize, frame: &mut [u8; RECORD_SIZE]) -> i64
+pub fn kiosk_step(file: &[u8], next: &mut usize, frame: &mut [u8; RECORD_SIZE]) -> i64
     ensures value { result ≡ find_answer (find_says file.now next.old) }
     ensures frame { frame.new ≡ find_record Plain (find_says file.now next.old) }
     ensures next { next.new ≡ next_number file.now next.old }
@@ -478,8 +430,7 @@ pub extern "C" fn kiosk_step(file: &[u8], next: &mut usize, frame: &mut [u8; REC
 }
 
 // The same, with the frame's stride in the record.
-#[unsafe(no_mangle)]
-pub extern "C" fn kiosk_step_strided(
+pub fn kiosk_step_strided(
     file: &[u8],
     next: &mut usize,
     frame: &mut [u8; STRIDED_RECORD_SIZE],
@@ -492,8 +443,7 @@ pub extern "C" fn kiosk_step_strided(
 }
 
 // A row of a frame: its length, and where it starts in the file.
-#[unsafe(no_mangle)]
-pub extern "C" fn kiosk_row(file: &[u8], number: usize, row: usize, start: &mut usize) -> i64
+pub fn kiosk_row(file: &[u8], number: usize, row: usize, start: &mut usize) -> i64
     ensures value { result ≡ row_answer (find_says file.now number) row }
     ensures start { start.new ≡ row_start (find_says file.now number) row start.old }
 {
@@ -508,29 +458,21 @@ pub extern "C" fn kiosk_row(file: &[u8], number: usize, row: usize, start: &mut 
 }
 
 // Carries a spool to the other layout.
-#[unsafe(no_mangle)]
-pub extern "C" fn kiosk_relayout(file: &[u8], dst: &mut [u8], place: &mut usize) -> i64
+pub fn kiosk_relayout(file: &[u8], dst: &mut [u8], place: &mut usize) -> i64
     ensures { Gives (relayout_says file.now (length dst.old)) (relaid file.now) result dst.old dst.new place.old place.new }
 {
     answered(relayout(file, dst), place)
 }
 
 // Lays out a spool of records. Their offsets are not looked at.
-#[unsafe(no_mangle)]
-pub extern "C" fn kiosk_lay_out(
-    records: &[FrameRecord],
-    shop: u16,
-    dst: &mut [u8],
-    place: &mut usize,
-) -> i64
+pub fn kiosk_lay_out(records: &[FrameRecord], shop: u16, dst: &mut [u8], place: &mut usize) -> i64
     ensures { Gives (layout_says records.now (length dst.old)) (layout_bytes records.now shop dst.old) result dst.old dst.new place.old place.new }
 {
     answered(lay_out(records, shop, dst), place)
 }
 
 // The listing of a spool as text (rules, section 9): its length, from the buffer's start on.
-#[unsafe(no_mangle)]
-pub extern "C" fn kiosk_listing(file: &[u8], text: &mut [u8; LISTING_ROOM]) -> usize
+pub fn kiosk_listing(file: &[u8], text: &mut [u8; LISTING_ROOM]) -> usize
     ensures whole { take result text.new ≡ listing file.now }
     ensures within { result ≤ length text.new }
     ensures buffer { record { bytes = text.new; at = result } ≡ put_text (record { bytes = text.old; at = 0 }) (listing file.now) }

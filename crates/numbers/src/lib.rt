@@ -71,7 +71,7 @@ pub fn raised(top: i16, x: u16) -> i16
     ensures { rank result ≡ max (rank top) x }
 {
     let signed = (x as i32 - 32768) as i16;
-    signed.max(top)
+    if top < signed { signed } else { top }
 }
 
 // The greatest itself.

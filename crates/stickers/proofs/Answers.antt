@@ -2,7 +2,7 @@
 -- Assumes nothing.
 use Prim.Native.Nat.{ℕ, ◌<◌, ◌≤◌}
 use mathlib.Core.Path.{◌≡◌, refl, sym, ap, subst, ◌∙◌}
-use mathlib.Core.List.{List, map}
+use mathlib.Core.List.{List, [], map}
 use native.Mathlib.Omega.{arith}
 use Rattle.std.specs.Prelude.{Option, None, Some, Result, Ok, Err}
 use Rattle.refusal.specs.declared.Refusal.{Refusal}
@@ -57,6 +57,9 @@ module _ (src tints : List ℕ) (budget room : ℕ) where
     refuses_where (number_of fault.refusal) fault.place says,
     (stays (number_of fault.refusal) fault.place before says, λ choice e. never (Promised tints (picture_of src) budget choice) cc),
   )
+
+  pub refused_choice : (fault : Fault) → fault_said fault ≡ request_says src tints budget room → chosen_said (Err fault) ≡ stickers_says src tints budget room
+  refused_choice fault says = (refuses fault [] (sym says)).0
 
   pub refuses-at :
       (r : Refusal) (at : ℕ) (before : List ℕ) → request_says src tints budget room ≡ refused_at (number_of r) at → Meets (Err (somewhere r at)) before before

@@ -13,8 +13,9 @@ use Rattle.std.specs.List.{AllWithin, HoldsAt}
 use borrow.Author.Tests.{lt-ltb, le-ltb, eq-eqb, ne_eqb, ltb-false, eqb-true, eqb-false, not-false}
 use lib.Dec.{ltb, eqb}
 use lib.ListN.{length, get_or}
-use Rattle.refusal.specs.Answers.{sound, or_else, Said, accepted, refused, refused_at, refuses_or, and_then}
-use Rattle.refusal.proofs.Verdicts.{passed, both_sound, or_accepted, not_accepted, not_accepted_at}
+use Rattle.refusal.specs.declared.Fault.{Fault}
+use Rattle.refusal.specs.Answers.{sound, or_else, Said, accepted, refused, refused_at, refuses_or, and_then, fault_said}
+use Rattle.refusal.proofs.Verdicts.{passed, both_sound, or_accepted, not_accepted, not_accepted_at, fault_not_accepted}
 use Rattle.samples.specs.declared.Coding.TheVariants.{Codes}
 use Rattle.samples.specs.Samples.{pixel_size, two_by_two}
 use Rattle.samples.specs.Faults.{length_fault, room_fault, samples_say}
@@ -149,6 +150,9 @@ module _ (src tints : List ℕ) (budget room : ℕ) where
   pub picture_decides : (s : Said) → ((n : ℕ) → s ≡ accepted n → ⊥) → s ≡ picture_says src room → s ≡ request_says src tints budget room
   unfolding request_says
   picture_decides s never e = sym (then_stands s _ never) ∙ ap (λ first. and_then first (work_says (length src) tints budget (length src / pixel_size true))) e
+
+  pub picture_ends : (f : Fault) → fault_said f ≡ picture_says src room → fault_said f ≡ request_says src tints budget room
+  picture_ends f e = picture_decides (fault_said f) (fault_not_accepted f) e
 
 -- ---- what accepted tints, budget and number of pixels are
 module _ (done : Said) (len : ℕ) (tints : List ℕ) (n : ℕ) where

@@ -46,6 +46,7 @@ const TINTS: usize = 16;
 pub const TINT_CODES: usize = 48;
 
 // Chooses four tints for a picture, and writes the number of each pixel's tint.
+#[tactic(auto, using(crate::proofs::Answers::refused_choice))]
 pub fn choose(
     src: &[u8],
     tints: &[u16; TINT_CODES],
@@ -73,6 +74,7 @@ const MOST_PIXELS: usize = 65536;
 const CHOICES: usize = 1820;
 
 // All refusals, in order; or how many choices the budget allows.
+#[tactic(auto, using(crate::proofs::Requests::picture_ends))]
 fn judge_request(src: &[u8], tints: &[u16; TINT_CODES], budget: usize, room: usize) -> Answer
     ensures { said result ≡ request_says src.now tints.now budget room }
 {

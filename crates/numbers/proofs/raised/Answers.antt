@@ -1,8 +1,9 @@
--- The greater of two numbers has the greater rank, and the number of rank x is worked out in 32 bits.
-use Rattle.std.proofs.Common.{◌≡◌, ℕ, ◌<◌, arith, w16, w32, pos, ◌-ℤ◌, to_z, of_z}
-use mir.Val.{SFits}
+-- The number of rank x is the greater one just where x is the greater rank.
+use Rattle.std.proofs.Common.{◌≡◌, ap, ℕ, ◌<◌, true, false, ltb, arith, w16, w32, pos, ◌-ℤ◌, to_z, of_z}
 use mir.ValLaws.{to_z-of_z, to_z_pos}
-use Rattle.numbers.proofs.Ranks.{ranked, ranked_fits, highest}
+use borrow.Author.Tests.{ltb-true, ltb-false}
+use Rattle.numbers.specs.HowRanked.{rank}
+use Rattle.numbers.proofs.Ranks.{ranked, ranked_fits, rank_ranked, in_order}
 use Rattle.numbers.proofs.raised.Goals as goal
 
 module _ (x : ℕ) (h : x < 65536) where
@@ -16,9 +17,22 @@ module _ (x : ℕ) (h : x < 65536) where
   in_sixteen : to_z w16 (of_z w16 (to_z w32 (of_z w32 (to_z w32 x -ℤ pos 32768)))) ≡ ranked x
   in_sixteen = rw again (to_z-of_z w16 _ (ranked_fits x (omega arith) w16 (omega arith)))
 
-pub returns : goal.returns
-returns c =
+  signed_rank : rank (to_z w16 (of_z w16 (to_z w32 (of_z w32 (to_z w32 x -ℤ pos 32768))))) ≡ x
+  signed_rank = rw in_sixteen (rank_ranked x (omega arith))
+
+pub returns-then-top-signed : goal.returns-then-top-signed
+returns-then-top-signed c =
     let x : c.args.x < 65536 = omega arith in
-    let fits : SFits w16 c.max.result = record { sfits = omega (arith, c.max.type_inv) } in
-    rw (to_z-of_z w16 c.max.result fits, c.max.ensures.value, in_sixteen c.args.x x, to_z-of_z w16 c.args.top c.ranges.top)
-    (highest c.args.top c.args.x (omega (arith, c.ranges.top)) x)
+    let top = to_z-of_z w16 c.args.top c.ranges.top in
+    let less : ltb (rank c.args.top) c.args.x ≡ true =
+    rw (← in_order c.args.top c.args.x (omega (arith, c.ranges.top))) (rw (top, in_sixteen c.args.x x) at c.if-top-signed.true) in
+    omega (arith, ltb-true (rank c.args.top) c.args.x less, signed_rank c.args.x x)
+
+pub returns-else-top-signed : goal.returns-else-top-signed
+returns-else-top-signed c =
+    let x : c.args.x < 65536 = omega arith in
+    let top : to_z w16 (of_z w16 c.args.top) ≡ c.args.top = to_z-of_z w16 c.args.top c.ranges.top in
+    let not_less : ltb (rank c.args.top) c.args.x ≡ false =
+    rw (← in_order c.args.top c.args.x (omega (arith, c.ranges.top))) (rw (top, in_sixteen c.args.x x) at c.if-top-signed.false) in
+    let same = ap rank top in
+    omega (arith, ltb-false (rank c.args.top) c.args.x not_less, same)

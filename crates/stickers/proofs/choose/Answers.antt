@@ -1,11 +1,11 @@
 -- `stickers::choose` meets its contract: an accepted request is searched and written, and a refused one changes nothing.
-use Rattle.std.proofs.Common.{◌≡◌, Err, rules, sym, ap, ◌∙◌, arith, length, map}
+use Rattle.std.proofs.Common.{◌≡◌, sym, ap, ◌∙◌, arith, length, map}
 use Rattle.refusal.specs.Answers.{accepted}
 use Rattle.stickers.specs.Choices.{choice_of, tint_of}
 use Rattle.stickers.specs.Stickers.{request_says, picture_of}
 use Rattle.stickers.proofs.Best.{choice_allowed, found_ascends}
 use Rattle.stickers.proofs.Requests.{SoundRequest, request_sound, length_picture}
-use Rattle.stickers.proofs.Answers.{accepts, refuses}
+use Rattle.stickers.proofs.Answers.{accepts}
 use Rattle.stickers.proofs.choose.Goals as goal
 use Rattle.stickers.proofs.choose.Goals.{In_ok-limit}
 
@@ -50,10 +50,3 @@ returns c =
     ∙ ap (λ f. map (tint_of tints f) picture) palette.four in
     let meets = accepts a.src.now tints a.budget (length a.dst.now) _ _ a.dst.now _ (says (goal.at.returns c).In_ok-limit) (omega arith) is bytes in
     record { answer = meets.0; bytes = meets.1.0; promise = meets.1.1 }
-
-pub returns-in_err-limit-clause-answer : goal.returns-in_err-limit-clause-answer
-returns-in_err-limit-clause-answer c =
-    let a = c.args in
-    let fault = c.in_err-limit.field-0.0 in
-    let is : c.from_residual.result ≡ Err fault = search rules in
-    rw is (refuses a.src.now a.tints.now a.budget (length a.dst.now) fault a.dst.now (sym (c.in_err-limit.ensures))).0

@@ -8,7 +8,7 @@ use native.Mathlib.Omega.{arith}
 use native.Mathlib.Nat.{mul-one, mul-zero}
 use borrow.Author.Tests.{leb-true, leb-false}
 use lib.Dec.{leb}
-use lib.ListN.{get_or}
+use lib.ListN.{length, get_or}
 use mir.Val.{bool_byte}
 use Rattle.esrgb.specs.Depths.{step, scale}
 use Rattle.esrgb.proofs.Scale.{Scale}
@@ -30,6 +30,10 @@ abbrev pub halves : List ℕ
 halves = 4 ∷ 2 ∷ 1 ∷ []
 
 module _ (n : ℕ) (s : Scale n) (thresholds : List ℕ) (table : ThresholdTable n thresholds) (light : ℕ) where
+  -- How many thresholds there are, as the product by which the code clips the start.
+  pub long : length thresholds ≡ 320 * step n
+  long = omega (arith, table.long)
+
   -- A look at the threshold of level + half: the levels before it go, or those from it on.
   look_by :
       (level width half at : ℕ) → Window n light level width → 2 * half ≤ width → at ≡ level + half

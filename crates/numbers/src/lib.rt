@@ -41,7 +41,8 @@ pub fn four_bytes(v: u32) -> [u8; 4]
 }
 
 // ---- numbers
-// The library's methods under names of their own, so that the wrong programs of must-fail/ hold each to its definition.
+// The library's methods, and a comparison, under names of their own, so that the wrong programs of must-fail/ hold each
+// to its definition.
 
 // How far a number is above a limit, and 0 if it is not: a difference of ℕ. A processor has one instruction
 // that does this to several samples at once.
@@ -66,7 +67,8 @@ pub fn lower(x: u32, y: u32) -> u32
 
 // The greatest so far, and one number more. Processors have an instruction for the greater of several pairs of
 // signed numbers of 16 bits, and not all have one for unsigned ones: so the greatest is kept as the signed
-// number that has it for its rank. That of 0 is -32,768.
+// number that has it for its rank. That of 0 is -32,768. A comparison, and no `max`: over `max` no wrong program of
+// must-fail/ keeps the form of a right one.
 pub fn raised(top: i16, x: u16) -> i16
     ensures { rank result ≡ max (rank top) x }
 {

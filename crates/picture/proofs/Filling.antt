@@ -19,7 +19,7 @@ place_mono true h = omega arith
 place_mono false h = omega arith
 
 -- ---- lengths that are exact: room for the samples of the source, and for its pixels
-room_samples :
+pub room_samples :
     (from to : Bool) (src dst : List ℕ) → Exact from to (length src) (length dst) → length dst ≡ place to (length (samples_of from src))
 room_samples true true src dst e = omega (arith, e, length_two src)
 room_samples true false src dst e = omega (arith, e, length_two src)
@@ -30,15 +30,15 @@ pixels_end : (wide : Bool) (n : ℕ) → pixel_size wide * n ≡ place wide (3 *
 pixels_end true n = omega arith
 pixels_end false n = omega arith
 
-room-pixels :
-    (from to : Bool) (src dst : List ℕ) → Exact from to (length src) (length dst) → length dst ≡ place to (3 * (length src / pixel_size from))
-room-pixels from to src dst e = e.room-is ∙ pixels_end to (length src / pixel_size from)
+pub room-pixels :
+    (from to : Bool) (src dst : List ℕ) → length dst ≡ pixel_size to * (length src / pixel_size from) → length dst ≡ place to (3 * length (read from src))
+room-pixels from to src dst e = rw (length-read from src) (e ∙ pixels_end to (length src / pixel_size from))
 
 pub pixel_within :
     (from to : Bool) (src dst after : List ℕ) (i : ℕ) → Exact from to (length src) (length dst) → length after ≡ length dst
     → i < length src / pixel_size from → place to (3 * (i + 1)) ≤ length after
 pixel_within from to src dst after i e kept h =
-    omega (arith, room-pixels from to src dst e, place_mono to {k = 3 * (i + 1)} {n = 3 * (length src / pixel_size from)} (omega arith))
+    omega (arith, room-pixels from to src dst e.room-is, place_mono to {k = 3 * (i + 1)} {n = 3 * length (read from src)} (omega (arith, length-read from src)))
 
 -- ---- samples, each by f
 abbrev pub bytes_by : Bool → (ℕ → ℕ) → List ℕ → List ℕ
@@ -96,4 +96,4 @@ pub pixels_done :
     → after ≡ pixels_by to f (read from src)
 pixels_done from to f src dst after i e kept h =
     written_all (pixels_by to f) (read from src) after (place to (3 * i)) i refl (omega (arith, length-read from src))
-    (omega (arith, room-pixels from to src dst e, place_mono to {k = 3 * (length src / pixel_size from)} {n = 3 * i} (omega arith)))
+    (omega (arith, room-pixels from to src dst e.room-is, place_mono to {k = 3 * length (read from src)} {n = 3 * i} (omega (arith, length-read from src))))

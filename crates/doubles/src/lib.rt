@@ -8,8 +8,8 @@ ghost use Rattle.std.specs.Float.Ieee.Scale.{finite};
 ghost use Rattle.doubles.specs.Doubles.{nearest_whole};
 ghost use Rattle.doubles.specs.HowWhole.{nearest_size};
 
-// Neither infinite nor not a number.
-#[tactic(auto, using(crate::proofs::Whole::finite_is))]
+// Neither infinite nor not a number. The two laws of infinity are named for the wrong programs, which compare with it.
+#[tactic(auto, using(crate::proofs::Whole::finite_is, crate::proofs::Whole::below_infinity, crate::proofs::Whole::not_below_infinity))]
 pub fn is_finite(x: f64) -> bool
     ensures { result ≡ finite x }
 {

@@ -3,14 +3,13 @@
 use Prim.Native.Nat.{ℕ, ◌+◌, ◌≤◌, ◌<◌}
 use native.Mathlib.Numerals.{add-one}
 use mathlib.Core.Path.{◌≡◌, refl, sym, ap, ◌∙◌}
-use mathlib.Core.List.{List, ◌∷◌}
+use mathlib.Core.List.{List, [], ◌∷◌}
 use lib.ListN.{length, drop, get_or, drop_of_length-le}
 use lib.Seq.{drop-cons}
 use Rattle.std.specs.Prelude.{Option, None, Some, Err}
 use Rattle.std.specs.Result.{IsErrAnd}
 use Rattle.std.proofs.lemmas.Result.{err_from_is_err_and}
 use Rattle.refusal.specs.declared.Fault.{Fault}
-use Rattle.refusal.specs.Refusals.{number_of}
 use Rattle.refusal.specs.Answers.{Answer, Verdict, sound, faulty, Said, accepted, at_place, fault_said, decides}
 use Rattle.refusal.proofs.Verdicts.{not_accepted, not_accepted_at}
 use Rattle.records.specs.declared.FrameRecord.{FrameRecord}
@@ -20,6 +19,7 @@ use Rattle.records.specs.Pixels.{pixel_bytes}
 use Rattle.records.specs.Faults.{record_fault}
 use Rattle.layout.specs.LayOut.{records_say}
 use Rattle.layout.specs.HowLaidOut.{State, grown, summed, checked, visited, walked, stopped}
+use Rattle.layout.proofs.Checking.{stays}
 
 -- What `?` passes on.
 pub passed_on : {f : Fault} (answer : Answer) → IsErrAnd answer (λ e. e ≡ f) → answer ≡ Err f
@@ -35,13 +35,10 @@ ended sound i m n None rest e = absurd (not_accepted n m e)
 ended sound i m n (Some at) rest e = absurd (not_accepted_at n at m e)
 ended (faulty k) i m n place rest e = e
 
--- A pass that has been refused stays so.
-stays_at : (l : Layout) (n : ℕ) (at : Option ℕ) (d : List ℕ) (place : ℕ) (frame : FrameRecord) → stopped (at_place n at) d ≡ visited l (stopped (at_place n at) d) place frame
-stays_at l n None d place frame = refl
-stays_at l n (Some at) d place frame = refl
-
+-- A pass that has been refused stays so at one record more, as at any number of them.
 pub stays_refused : (l : Layout) (f : Fault) (d : List ℕ) (place : ℕ) (frame : FrameRecord) → stopped (fault_said f) d ≡ visited l (stopped (fault_said f) d) place frame
-stays_refused l f d place frame = stays_at l (number_of f.refusal) f.place d place frame
+unfolding walked
+stays_refused l f d place frame = sym (stays l (frame ∷ []) place f d)
 
 module _ (rs : List FrameRecord) (i : ℕ) where
   abbrev r : FrameRecord

@@ -41,6 +41,9 @@ impl TryFrom<u32> for LevelSearch {
 // How many levels the table of starts leaves to a search.
 const FEW_LEVELS: usize = 8;
 
+// How many levels from 0 up the codes of a depth have, in steps of that depth.
+const STEP_LEVELS: usize = 320;
+
 impl LevelSearch {
     // The code of a light, clipped.
     pub fn code_of(self, light: i32) -> u16
@@ -67,14 +70,13 @@ impl LevelSearch {
         level
     }
 
-    // Where the search for a level starts. An entry is a level of 12 bits, whose step is 8; codes have 320 * step levels
-    // from 0 up. That is the length of the table too, but as a product it is a constant in the loop of each depth, so
-    // that the compiler makes no branch of it.
+    // Where the search for a level starts. An entry is a level of 12 bits, whose step is 8. The table of thresholds is as
+    // long as the product, but that is a constant in the loop of each depth, so that the compiler makes no branch of it.
     fn start_of(self, light: u32) -> usize
         ensures { result ≡ start_of (step (bits self.depth)) self.starts.now light }
     {
         let step = step_of(self.depth) as usize;
         let first = self.starts[group_of(light)] as usize * step / 8;
-        first.min(320 * step - FEW_LEVELS)
+        first.min(STEP_LEVELS * step - FEW_LEVELS)
     }
 }

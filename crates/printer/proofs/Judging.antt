@@ -87,10 +87,10 @@ say_behind done i before list h = say_done done i before (drop i list) (simp len
 
 -- ---- where the list ends: whole, or with numbers left over
 module _ (numbers : List ℕ) (turns i before : ℕ) (rows : List (List ℕ)) (past : length rows ≤ i) (e : simulation_says numbers turns ≡ arrivals_say (end_says numbers turns) i before (drop i (listed rows))) where
-  pub ends_whole : length numbers % 3 ≡ 0 → accepted turns ≡ simulation_says numbers turns
+  pub ends_whole : length numbers % arrival_size ≡ 0 → accepted turns ≡ simulation_says numbers turns
   ends_whole whole = sym (e ∙ say_behind _ i before (listed rows) (omega (arith, length-listed rows)) ∙ simp (eq-eqb _ _ whole))
 
-  pub ends_short : (length numbers % 3 ≡ 0 → ⊥) → refused_at 22 (length numbers / 3) ≡ simulation_says numbers turns
+  pub ends_short : (length numbers % arrival_size ≡ 0 → ⊥) → refused_at 22 (length numbers / arrival_size) ≡ simulation_says numbers turns
   ends_short short = sym (e ∙ say_behind _ i before (listed rows) (omega (arith, length-listed rows)) ∙ simp (ne_eqb _ _ short))
 
 -- ---- what is known of a list that is accepted

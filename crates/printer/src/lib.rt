@@ -154,8 +154,8 @@ impl Printer {
         ensures next { unwrap_or result idle ≡ next_kiosk self.now.waiting self.now.first }
         ensures waits { IfSome result (λ k. HasPrint self.now.waiting k) }
     {
-        // The number of a kiosk is carried on: worked out anew from `first`, a turn takes a quarter longer where all
-        // kiosks are busy.
+        // The number of a kiosk is carried on: worked out anew from `first`, a turn took a quarter longer where all
+        // kiosks are busy, on one of two machines.
         let mut k = self.first;
         for ahead in 0..KIOSKS {
             if self.waiting[k] != 0 {

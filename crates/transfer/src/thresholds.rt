@@ -283,6 +283,7 @@ static AT_TWELVE: [u32; 2560] = [
     1678735,
 ];
 
+// The two tables, for whoever knows the depth: these cannot fail.
 pub fn thresholds_at_ten() -> &'static [u32; 640]
     ensures { ThresholdTable 10 result.now }
 {

@@ -1,7 +1,8 @@
 -- Signed numbers of 16 bits by their rank: the one of rank x is x less 32,768, and ranks are in the order of the numbers.
 -- Assumes nothing.
-use Prim.Native.Nat.{ℕ, suc, ◌+◌, ◌-◌, ◌≤◌, ◌<◌, ◌^◌}
+use Prim.Native.Nat.{ℕ, suc, ◌+◌, ◌-◌, ◌≤◌, ◌<◌, ◌^◌, max}
 use mathlib.Core.Path.{◌≡◌, sym, ap, ◌∙◌}
+use mathlib.Core.Bool.{cond}
 use native.Mathlib.Omega.{arith}
 use native.Mathlib.Decide.{dec_lt}
 use lib.Dec.{ltb}
@@ -56,6 +57,13 @@ in_order (pos n) x h = elim (dec_lt x 32768) [
 in_order (negsuc n) x h = elim (dec_lt x 32768) [
   | yes below ↦ rw (low x below) (same_test (32768 - suc x) n (32767 - n) x (λ k. omega arith) (λ k. omega arith))
   | no above ↦ rw (high x (omega arith)) (sym (lt-ltb (32767 - n) x (omega arith)))
+]
+
+-- The greater of two numbers has the greater rank.
+pub highest : (t : ℤ) (x : ℕ) → mag t < 32768 → x < 65536 → rank (cond (lt_z t (ranked x)) (ranked x) t) ≡ max (rank t) x
+highest t x h f = elim (dec_lt (rank t) x) [
+  | yes less ↦ rw (in_order t x h, lt-ltb (rank t) x less) (omega (arith, rank_ranked x f))
+  | no not-less ↦ rw (in_order t x h, le-ltb (rank t) x (omega arith)) (omega arith)
 ]
 
 -- A rank, worked out from the number in 32 bits.

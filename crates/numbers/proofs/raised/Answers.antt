@@ -1,9 +1,8 @@
 -- The number of rank x is the greater one just where x is the greater rank.
-use Rattle.std.proofs.Common.{◌≡◌, ap, ℕ, ◌<◌, true, false, ltb, arith, w16, w32, pos, ◌-ℤ◌, to_z, of_z}
+use Rattle.std.proofs.Common.{◌≡◌, ap, ℕ, ◌<◌, arith, w16, w32, pos, ◌-ℤ◌, to_z, of_z}
 use mir.ValLaws.{to_z-of_z, to_z_pos}
-use borrow.Author.Tests.{ltb-true, ltb-false}
 use Rattle.numbers.specs.HowRanked.{rank}
-use Rattle.numbers.proofs.Ranks.{ranked, ranked_fits, rank_ranked, in_order}
+use Rattle.numbers.proofs.Ranks.{ranked, ranked_fits, rank_ranked, highest}
 use Rattle.numbers.proofs.raised.Goals as goal
 
 module _ (x : ℕ) (h : x < 65536) where
@@ -24,15 +23,15 @@ pub returns-then-top-signed : goal.returns-then-top-signed
 returns-then-top-signed c =
     let x : c.args.x < 65536 = omega arith in
     let top = to_z-of_z w16 c.args.top c.ranges.top in
-    let less : ltb (rank c.args.top) c.args.x ≡ true =
-    rw (← in_order c.args.top c.args.x (omega (arith, c.ranges.top))) (rw (top, in_sixteen c.args.x x) at c.if-top-signed.true) in
-    omega (arith, ltb-true (rank c.args.top) c.args.x less, signed_rank c.args.x x)
+    let test = rw (top, in_sixteen c.args.x x) at c.if-top-signed.true in
+    let greater = rw test at (highest c.args.top c.args.x (omega (arith, c.ranges.top)) x) in
+    omega (arith, greater, rank_ranked c.args.x x, signed_rank c.args.x x)
 
 pub returns-else-top-signed : goal.returns-else-top-signed
 returns-else-top-signed c =
     let x : c.args.x < 65536 = omega arith in
     let top : to_z w16 (of_z w16 c.args.top) ≡ c.args.top = to_z-of_z w16 c.args.top c.ranges.top in
-    let not_less : ltb (rank c.args.top) c.args.x ≡ false =
-    rw (← in_order c.args.top c.args.x (omega (arith, c.ranges.top))) (rw (top, in_sixteen c.args.x x) at c.if-top-signed.false) in
+    let test = rw (top, in_sixteen c.args.x x) at c.if-top-signed.false in
+    let greater = rw test at (highest c.args.top c.args.x (omega (arith, c.ranges.top)) x) in
     let same = ap rank top in
-    omega (arith, ltb-false (rank c.args.top) c.args.x not_less, same)
+    omega (arith, greater, same)

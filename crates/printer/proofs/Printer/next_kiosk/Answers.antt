@@ -14,7 +14,7 @@ returns-then-self-k-ne0-clause-next c =
 pub loop-ahead-preserved : goal.loop-ahead-preserved
 loop-ahead-preserved c =
     let ahead = c.loop-ahead.ahead in
-    record { there = omega arith; next = c.loop-ahead.invariant.next ∙ next_on _ (kiosk_count - ahead) (kiosk_count - (ahead + 1)) _ (omega arith) c.if-self-k-ne0.false }
+    record { there = omega arith; from_first = omega arith; next = c.loop-ahead.invariant.next ∙ next_on _ (kiosk_count - ahead) (kiosk_count - (ahead + 1)) _ (omega arith) c.if-self-k-ne0.false }
 
 pub returns : goal.returns
 returns c =

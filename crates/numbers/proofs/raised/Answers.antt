@@ -1,4 +1,4 @@
--- The number of rank x is the greater one just where x is the greater rank.
+-- The greater of two numbers has the greater rank, and the number of rank x is worked out in 32 bits.
 use Rattle.std.proofs.Common.{◌≡◌, ap, ℕ, ◌<◌, arith, w16, w32, pos, ◌-ℤ◌, to_z, of_z}
 use mir.ValLaws.{to_z-of_z, to_z_pos}
 use Rattle.numbers.specs.HowRanked.{rank}
